@@ -1,0 +1,14 @@
+//! The kernel's data, and the definitions of what the bytecode does under it.
+#![tactic(auto)]
+
+mod call;
+mod event;
+mod moves;
+mod tables;
+
+pub use call::Call;
+pub use event::{Event, FailKind, Place, Who};
+pub use moves::{Move, PokeBytes};
+pub use tables::{
+    Action, AlarmRow, CounterRow, CounterRule, Name, Start, Tables, TaskRow, TaskRule,
+};
