@@ -1,0 +1,4 @@
+//! KESO compiles Java class files for control units under OSEK.
+#![tactic(auto)]
+
+fn main() {}
