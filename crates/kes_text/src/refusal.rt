@@ -74,6 +74,84 @@ pub enum Kind {
     Later,
 }
 
+impl Kind {
+    ghost use Rattle.std.specs.Prelude.{◌≡◌};
+    ghost use Rattle.kes_text.specs.KindName.{kind_name};
+
+    /// The word that a refusal's line has for the kind.
+    pub fn name(self) -> &'static str
+        ensures { result.now ≡ kind_name self }
+    {
+        match self {
+            Kind::Truncated => "Truncated",
+            Kind::Magic => "Magic",
+            Kind::Version => "Version",
+            Kind::PoolTag => "PoolTag",
+            Kind::CodeLength => "CodeLength",
+            Kind::AttrLength => "AttrLength",
+            Kind::CodeCount => "CodeCount",
+            Kind::TwoMembers => "TwoMembers",
+            Kind::Trailing => "Trailing",
+            Kind::PoolIndex => "PoolIndex",
+            Kind::BadDescriptor => "BadDescriptor",
+            Kind::Duplicate => "Duplicate",
+            Kind::MissingClass => "MissingClass",
+            Kind::SuperKind => "SuperKind",
+            Kind::SuperCycle => "SuperCycle",
+            Kind::SplitPackage => "SplitPackage",
+            Kind::Syntax => "Syntax",
+            Kind::Range => "Range",
+            Kind::Room => "Room",
+            Kind::Twice => "Twice",
+            Kind::Unknown => "Unknown",
+            Kind::NoEntry => "NoEntry",
+            Kind::BadNative => "BadNative",
+            Kind::BadMapped => "BadMapped",
+            Kind::BadPortal => "BadPortal",
+            Kind::Handlers => "Handlers",
+            Kind::Synchronized => "Synchronized",
+            Kind::Opcode => "Opcode",
+            Kind::Unsupported => "Unsupported",
+            Kind::Operand => "Operand",
+            Kind::SwitchTable => "SwitchTable",
+            Kind::Jump => "Jump",
+            Kind::FrameTag => "FrameTag",
+            Kind::FrameEnd => "FrameEnd",
+            Kind::FrameItem => "FrameItem",
+            Kind::FramePlace => "FramePlace",
+            Kind::Typing => "Typing",
+            Kind::NoMember => "NoMember",
+            Kind::FloatMember => "FloatMember",
+            Kind::ArrayMethod => "ArrayMethod",
+            Kind::BadNew => "BadNew",
+            Kind::Unbound => "Unbound",
+            Kind::InterfaceCode => "InterfaceCode",
+            Kind::OwnPortal => "OwnPortal",
+            Kind::NoTarget => "NoTarget",
+            Kind::AtStart => "AtStart",
+            Kind::AtRoutine => "AtRoutine",
+            Kind::Recursive => "Recursive",
+            Kind::Large => "Large",
+            Kind::Unreached => "Unreached",
+            Kind::NoFrames => "NoFrames",
+            Kind::StartDevice => "StartDevice",
+            Kind::StartFail => "StartFail",
+            Kind::StartLong => "StartLong",
+            Kind::TooMany => "TooMany",
+            Kind::TooDeep => "TooDeep",
+            Kind::Label => "Label",
+            Kind::Word => "Word",
+            Kind::Callee => "Callee",
+            Kind::Region => "Region",
+            Kind::Section => "Section",
+            Kind::Falls => "Falls",
+            Kind::Cycle => "Cycle",
+            Kind::Disagree => "Disagree",
+            Kind::Later => "Later",
+        }
+    }
+}
+
 /// Which file is refused, why, and at which place: a byte of a class file from 0, or a line of a text
 /// from 1.
 #[derive(Clone, Copy, Debug, PartialEq, Eq)]
