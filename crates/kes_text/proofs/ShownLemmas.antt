@@ -1,11 +1,9 @@
 -- The kit's percent-encoding by the set of bytes that are not shown gives a name as it is shown.
-use Rattle.std.proofs.Common.{◌≡◌, ℕ, ◌<◌, ◌≤◌, Bool, true, false, not, ◌&&◌, ◌||◌, ◌==◌, List, [], ◌∷◌, ◌++◌, nat_lt, nat_le, cond, refl, ap, arith}
-use Rattle.std.specs.Char.{is_ascii}
+use Rattle.std.proofs.Common.{◌≡◌, ℕ, ◌<◌, true, not, List, [], ◌∷◌, refl, arith}
 use Rattle.std.proofs.lemmas.Bool.{agree_below, agree_below_at}
-use Rattle.std.proofs.lemmas.Bool.{cases_lt}
 use Rattle.std.proofs.lemmas.Bool.Decides.{nat_tests}
 use Rattle.percent_encoding.specs.AsciiSet.{contains, should_percent_encode}
-use Rattle.percent_encoding.specs.Percent.{percent_encode, percent_encode_byte, encode_byte}
+use Rattle.percent_encoding.specs.Percent.{percent_encode, encode_byte}
 use Rattle.kes_text.specs.declared.shown.TheConstants.{ESCAPED}
 use Rattle.kes_text.specs.Shown.{stands_as_it_is, shown_byte, shown}
 

@@ -1,3 +1,4 @@
+pub mod Complaints
 pub mod KindName
 pub mod Lines
 pub mod Reading

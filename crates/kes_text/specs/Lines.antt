@@ -1,34 +1,15 @@
--- The lines that the program puts on standard error.
-use Rattle.std.specs.Prelude.{ℕ, List, ◌++◌, codes, decimal}
-use Rattle.kes_text.specs.declared.refusal.Refusal.{Refusal}
-use Rattle.kes_text.specs.declared.lines.Complaint.{Complaint}
-use Rattle.kes_text.specs.declared.lines.Complaint.TheVariants as complaint
-use Rattle.kes_text.specs.KindName.{kind_name}
+-- The lines of a text. Each ends at a line feed, which is no part of it and which the last may lack.
+use Rattle.std.specs.Prelude.{ℕ, Bool, ◌==◌, List, [], ◌∷◌, if◌then◌else◌}
 
-abbrev pub refusal_text : Refusal → List ℕ → List ℕ
-refusal_text r name =
-    codes "keso: " ++ name ++ codes ": " ++ kind_name r.kind ++ codes " at " ++ decimal r.at ++ codes "\n"
+-- `\n`
+abbrev pub is_line_feed : ℕ → Bool
+is_line_feed byte = byte == 10
 
-abbrev pub usage_text : List ℕ
-usage_text = codes "keso: the words are not a command\n"
+-- the byte put at the front of the first line, or alone on a line where there is none
+abbrev pub put_first : ℕ → List (List ℕ) → List (List ℕ)
+put_first byte [] = (byte ∷ []) ∷ []
+put_first byte (line ∷ more) = (byte ∷ line) ∷ more
 
-abbrev pub cannot_read_text : List ℕ → List ℕ
-cannot_read_text name = codes "keso: cannot read " ++ name ++ codes "\n"
-
-abbrev pub cannot_write_text : List ℕ → List ℕ
-cannot_write_text name = codes "keso: cannot write " ++ name ++ codes "\n"
-
-abbrev pub no_output_text : List ℕ
-no_output_text = codes "keso: cannot write the output\n"
-
-abbrev pub no_memory_text : List ℕ
-no_memory_text = codes "keso: out of memory\n"
-
--- the line of each complaint
-abbrev pub complaint_text : Complaint → List ℕ
-complaint_text (complaint.Refused r name) = refusal_text r name.now
-complaint_text complaint.Usage = usage_text
-complaint_text (complaint.CannotRead name) = cannot_read_text name.now
-complaint_text (complaint.CannotWrite name) = cannot_write_text name.now
-complaint_text complaint.CannotWriteOutput = no_output_text
-complaint_text complaint.NoMemory = no_memory_text
+abbrev pub lines : List ℕ → List (List ℕ)
+lines [] = []
+lines (byte ∷ text) = if is_line_feed byte then [] ∷ lines text else put_first byte (lines text)

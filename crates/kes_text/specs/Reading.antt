@@ -1,6 +1,7 @@
 -- How far an input has been read.
-use Rattle.std.specs.Prelude.{ℕ, ◌+◌, Bool, ◌==◌, List, length, drop, min}
+use Rattle.std.specs.Prelude.{ℕ, ◌+◌, List, length, drop, min}
 use Rattle.std.specs.List.{before_first}
+use Rattle.kes_text.specs.Lines.{is_line_feed}
 
 -- the whole input, and how many of its bytes have been passed over
 pub record Reading : Type 0 where
@@ -14,10 +15,6 @@ rest r = drop r.place r.input
 -- the reading n bytes on
 abbrev pub moved : Reading → ℕ → Reading
 moved r n = record r { place = r.place + n }
-
--- `\n`
-abbrev pub is_line_feed : ℕ → Bool
-is_line_feed byte = byte == 10
 
 -- the line that begins here: the bytes before the next line feed, or all that are left
 abbrev pub next_line : Reading → List ℕ

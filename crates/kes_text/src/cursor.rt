@@ -1,6 +1,7 @@
-ghost use Rattle.std.specs.Prelude.{◌≡◌, ◌<◌, ◌≤◌, ◌↔◌, length, take, IsTrue, IsSome, IfSome, OnSome, IfNone};
-ghost use Rattle.std.specs.List.{before_first, after_first, position};
-ghost use Rattle.kes_text.specs.Reading.{rest, moved, behind_line, is_line_feed};
+ghost use Rattle.std.specs.Prelude.{◌≡◌, ◌<◌, ◌≤◌, ◌↔◌, [], ◌∷◌, length, take, IsTrue, IsSome, IfSome, OnSome, IfNone, MatchOption};
+ghost use Rattle.std.specs.List.{position};
+ghost use Rattle.kes_text.specs.Lines.{is_line_feed, lines};
+ghost use Rattle.kes_text.specs.Reading.{rest, moved, next_line, behind_line};
 
 use std::marker::Model;
 
@@ -48,6 +49,13 @@ impl<'a> Cursor<'a> {
         self.place == self.input.len()
     }
 
+    /// The bytes that are left.
+    pub fn rest(&self) -> &'a [u8]
+        ensures { result.now ≡ rest self.now }
+    {
+        &self.input[self.place..]
+    }
+
     /// The next `n` bytes, or None where fewer are left.
     pub fn take(&mut self, n: usize) -> Option<&'a [u8]>
         ensures enough { IsSome result ↔ (n ≤ length (rest self.old)) }
@@ -64,10 +72,14 @@ impl<'a> Cursor<'a> {
     /// no line feed follows. None where no byte is left.
     pub fn line(&mut self) -> Option<&'a [u8]>
         ensures more { IsSome result ↔ (self.old.place < length self.old.input) }
-        ensures piece { IfSome result (λ line. line.now ≡ before_first is_line_feed (rest self.old)) }
+        ensures piece { IfSome result (λ line. line.now ≡ next_line self.old) }
         ensures after { OnSome result (self.new ≡ behind_line self.old) }
-        ensures left { OnSome result (rest self.new ≡ after_first is_line_feed (rest self.old)) }
         ensures end { IfNone result (self.new ≡ self.old) }
+
+        // The calls answer the lines of what is left, in their order.
+        ensures lines { MatchOption result
+            (lines (rest self.old) ≡ [])
+            (λ line. lines (rest self.old) ≡ line.now ∷ lines (rest self.new)) }
     {
         let rest = self.rest();
         if rest.is_empty() {
@@ -77,13 +89,6 @@ impl<'a> Cursor<'a> {
         let line = &rest[..length];
         self.place = self.input.len().min(self.place + line.len() + 1);
         Some(line)
-    }
-
-    /// The bytes that are left.
-    fn rest(&self) -> &'a [u8]
-        ensures { result.now ≡ rest self.now }
-    {
-        &self.input[self.place..]
     }
 }
 

@@ -1,4 +1,4 @@
-use std::alloc::AllocError;
+use std::alloc::{AllocError, AllocFailed};
 
 /// Want of memory.
 pub type NoMemory = AllocError;
@@ -166,4 +166,26 @@ pub struct Refusal {
 pub enum Stop {
     Refused(Refusal),
     NoMemory,
+}
+
+impl From<NoMemory> for Stop {
+    ghost use Rattle.std.specs.Prelude.{◌≡◌};
+    ghost use Rattle.kes_text.specs.declared.refusal.Stop.TheVariants as stop;
+
+    ghost from_gives = { λ _ s. s ≡ stop.NoMemory };
+
+    fn from(_error: NoMemory) -> Stop {
+        Stop::NoMemory
+    }
+}
+
+impl<T: Drop> From<AllocFailed<T>> for Stop {
+    ghost use Rattle.std.specs.Prelude.{◌≡◌};
+    ghost use Rattle.kes_text.specs.declared.refusal.Stop.TheVariants as stop;
+
+    ghost from_gives = { λ _ s. s ≡ stop.NoMemory };
+
+    fn from(_error: AllocFailed<T>) -> Stop {
+        Stop::NoMemory
+    }
 }

@@ -1,5 +1,5 @@
 ghost use Rattle.std.specs.Prelude.{◌≡◌, ◌++◌, codes, IfOk};
-ghost use Rattle.kes_text.specs.Lines.{refusal_text, complaint_text, no_memory_text};
+ghost use Rattle.kes_text.specs.Complaints.{refusal_text, complaint_text, no_memory_text};
 
 use crate::decimal::append_decimal;
 use crate::refusal::{NoMemory, Refusal};
