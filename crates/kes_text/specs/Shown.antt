@@ -3,7 +3,7 @@ use Rattle.std.specs.Prelude.{ℕ, Bool, not, ◌&&◌, ◌==◌, nat_le, List, 
 use Rattle.std.specs.List.{flat_map}
 use Rattle.percent_encoding.specs.Percent.{percent_sign, percent_encode_byte}
 
--- the byte is printed by ASCII, and is neither the space nor `%`
+-- the byte is a printing ASCII character other than the space and `%`
 abbrev pub stands_as_it_is : ℕ → Bool
 stands_as_it_is b = (nat_le 0x21 b && nat_le b 0x7E) && not (b == percent_sign)
 

@@ -9,11 +9,12 @@ use std::alloc::Global;
 /// The ASCII bytes that are not shown as they are.
 const ESCAPED: AsciiSet = ascii_set!(CONTROLS.add(b' ').add(b'%'));
 
-/// A name as it is shown.
+/// A name as it is shown: each byte outside 0x21 to 0x7E, and `%`, as `%` and two upper-case
+/// hexadecimal digits.
 pub fn escape(alloc: Global, name: &[u8]) -> Result<Vec<u8>, NoMemory>
     ensures text { IfOk result (λ text. text.items ≡ shown name.now) }
 
-    // Names that are shown alike are equal.
+    // What is shown gives the name again, so names that are shown alike are equal.
     ensures back { IfOk result (λ text. percent_decode text.items ≡ name.now) }
 {
     let mut text = String::new(alloc);
