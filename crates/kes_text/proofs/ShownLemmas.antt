@@ -20,9 +20,11 @@ escaped_is : (b : ℕ) → should_percent_encode ESCAPED b ≡ not (stands_as_it
 unfolding should_percent_encode
 escaped_is b = grind (arith, nat_tests, contains_is)
 
+-- the kit and the definition write the same for a byte
 byte_is : (b : ℕ) → encode_byte ESCAPED b ≡ shown_byte b
 byte_is b = rw escaped_is (grind (arith, nat_tests))
 
+-- and for a name
 pub percent_encode_is : (name : List ℕ) → percent_encode ESCAPED name ≡ shown name
 unfolding percent_encode
 percent_encode_is [] = refl
