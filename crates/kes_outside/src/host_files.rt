@@ -1,0 +1,121 @@
+ghost use Rattle.std.specs.Prelude.{◌≡◌, ◌≢◌, ℕ, ◌≤◌, ◌<◌, ◌↔◌, None, Err, IfOk, IfSome, OnOk, MatchResult, vec_len};
+ghost use Rattle.std.specs.IoError.{error_kind};
+ghost use Rattle.kes_outside.specs.Count.{one_more};
+
+use std::alloc::Global;
+use std::fs;
+use std::io::Read;
+use std::marker::Model;
+use std::rt;
+
+use crate::count::one_more;
+use crate::files::{FileFault, Files, ReadStop};
+use crate::streams::{fault_of, write_whole};
+
+/// The most bytes of a host file that is read, 1 GiB. One that is longer is a fault.
+pub const MOST_BYTES: u64 = 1_073_741_824;
+
+/// The files of the host. Nothing is told of what they hold, so contracts see the count of faults
+/// alone. A file that isn't there is a fault, and so is one of more than [`MOST_BYTES`] bytes.
+#[derive(Drop)]
+pub struct HostFiles<'a, R> {
+    runtime: &'a R,
+    faults: u64,
+}
+
+impl<'a, R> Model for HostFiles<'a, R> {
+    ghost use Rattle.std.specs.Prelude.{ℕ};
+
+    ghost Value = { ℕ };
+
+    ghost view = { λ files. files.faults };
+}
+
+impl<'a, R: rt::Files> HostFiles<'a, R> {
+    /// The files that this runtime reaches, with no fault yet.
+    pub fn new(runtime: &'a R) -> HostFiles<'a, R>
+        ensures { result ≡ 0 }
+    {
+        HostFiles { runtime, faults: 0 }
+    }
+}
+
+fn within_limit(bytes: Vec<u8>) -> Result<Vec<u8>, FileFault>
+    ensures { MatchResult result (λ kept. (kept ≡ bytes) × (vec_len bytes ≤ MOST_BYTES)) (λ fault. (fault ≡ FileFault.Failed) × (MOST_BYTES < vec_len bytes)) }
+{
+    if bytes.len() as u64 > MOST_BYTES {
+        return Err(FileFault::Failed);
+    }
+    Ok(bytes)
+}
+
+/// All bytes of the source, to its end. It is read no further than one byte past the limit.
+fn read_whole<S: Read + Drop>(alloc: Global, source: S) -> Result<Vec<u8>, FileFault>
+    ensures ok { IfOk result (λ bytes. IfSome (S.remaining source) (λ all. bytes.items ≡ all)) }
+    ensures within { IfOk result (λ bytes. vec_len bytes ≤ MOST_BYTES) }
+{
+    let mut bytes = Vec::new(alloc);
+    match source.take(MOST_BYTES + 1).read_to_end(&mut bytes) {
+        Ok(_) => within_limit(bytes),
+        Err(error) => Err(fault_of(error)),
+    }
+}
+
+fn read_file<R: rt::Files>(
+    runtime: &R,
+    alloc: Global,
+    name: &str,
+) -> Result<Vec<u8>, FileFault>
+    ensures { IfOk result (λ bytes. vec_len bytes ≤ MOST_BYTES) }
+{
+    match fs::open(runtime, name) {
+        Ok(file) => read_whole(alloc, file),
+        Err(error) => Err(fault_of(error)),
+    }
+}
+
+/// From the moment that the file is open it has lost what it held. So want of memory after that is
+/// a fault.
+fn write_file<R: rt::Files>(runtime: &R, name: &str, bytes: &[u8]) -> Result<(), FileFault> {
+    match fs::create(runtime, name) {
+        Ok(mut file) => write_whole(&mut file, bytes).map_err(|_| FileFault::Failed),
+        Err(error) => Err(fault_of(error)),
+    }
+}
+
+impl<'a, R: rt::Files> Files for HostFiles<'a, R> {
+    ghost contents = { λ _. None };
+
+    ghost faults = { λ files. files };
+
+    fn read(&mut self, alloc: Global, name: &str) -> Result<Vec<u8>, ReadStop>
+        ensures within { IfOk result (λ bytes. vec_len bytes ≤ MOST_BYTES) }
+        ensures never_missing { result ≢ Err ReadStop.Missing }
+        ensures failed { result ≡ Err ReadStop.Failed → self.new ≡ one_more self.old }
+        ensures ok_is_no_fault { OnOk result (self.new ≡ self.old) }
+        ensures no_memory_is_no_fault { result ≡ Err ReadStop.NoMemory → self.new ≡ self.old }
+        ensures count { self.old ≤ self.new }
+    {
+        match read_file(self.runtime, alloc, name) {
+            Ok(bytes) => Ok(bytes),
+            Err(FileFault::NoMemory) => Err(ReadStop::NoMemory),
+            Err(FileFault::Failed) => {
+                self.faults = one_more(self.faults);
+                Err(ReadStop::Failed)
+            }
+        }
+    }
+
+    fn write(&mut self, _alloc: Global, name: &str, bytes: &[u8]) -> Result<(), FileFault>
+        ensures failed { result ≡ Err FileFault.Failed → self.new ≡ one_more self.old }
+        ensures ok_is_no_fault { OnOk result (self.new ≡ self.old) }
+        ensures no_memory_is_no_fault { result ≡ Err FileFault.NoMemory → self.new ≡ self.old }
+        ensures count { self.old ≤ self.new }
+    {
+        let result = write_file(self.runtime, name, bytes);
+        if result == Err(FileFault::Failed) {
+            self.faults = one_more(self.faults);
+        }
+        result
+    }
+}
