@@ -4,7 +4,7 @@ use Rattle.std.specs.Prelude.{ℕ, List, [], ◌∷◌, ◌++◌, codes, flat_ma
 use Rattle.csubset.specs.Text.Line.{line}
 
 -- what the text is, the word type and the cell that shows a failure
-unfoldable pub heading_lines : List (List ℕ)
+abbrev pub heading_lines : List (List ℕ)
 heading_lines =
     codes "/* KESO C 1 */"
     ∷ codes "#include <stdint.h>"
@@ -14,7 +14,7 @@ heading_lines =
     ∷ []
 
 -- LDk and STk read and write k bytes of a region, DLDk and DSTk those of the device
-unfoldable pub memory_lines : List (List ℕ)
+abbrev pub memory_lines : List (List ℕ)
 memory_lines =
     codes "#define LD1(r, a) ((W)*((volatile uint8_t *)(r) + (a)))"
     ∷ codes "#define LD2(r, a) ((W)*(volatile uint16_t *)((volatile uint8_t *)(r) + (a)))"
@@ -35,7 +35,7 @@ memory_lines =
     ∷ []
 
 -- the operators on 64-bit words
-unfoldable pub operator_lines : List (List ℕ)
+abbrev pub operator_lines : List (List ℕ)
 operator_lines =
     codes "#define SIGN8 0x8000000000000000ull"
     ∷ codes "static W LO4(W a) { return a & 0xFFFFFFFFull; }"
@@ -73,7 +73,7 @@ operator_lines =
     ∷ []
 
 -- the services of the kernel; a service that answers through a pointer gives its status, negated, or the answer
-unfoldable pub service_lines : List (List ℕ)
+abbrev pub service_lines : List (List ℕ)
 service_lines =
     codes "#define K_ActivateTask(t) ((W)ActivateTask(t))"
     ∷ codes "#define K_TerminateTask() ((W)TerminateTask())"
@@ -92,7 +92,7 @@ service_lines =
     ∷ []
 
 -- a failure, interrupt sections and the body of a task
-unfoldable pub control_lines : List (List ℕ)
+abbrev pub control_lines : List (List ℕ)
 control_lines =
     codes "#define FAIL(n) { keso_failure = (n); ShutdownOS((StatusType)255); for (;;) { } }"
     ∷ codes "#define SUSPEND SuspendAllInterrupts()"

@@ -1,0 +1,50 @@
+-- What loops over lists of things to print keep.
+use Rattle.std.proofs.Common.{◌≡◌, ℕ, zero, suc, ◌+◌, ◌-◌, ◌<◌, ◌≤◌, List, [], ◌∷◌, ◌++◌, length, take, get_or, flat_map, codes, append_assoc, add-one, ap, refl, arith}
+use Rattle.std.proofs.lemmas.Grind.{common_steps, flat_map-append}
+use Rattle.std.proofs.lemmas.List.{append-nil}
+use Rattle.std.proofs.lemmas.List.FromFn.{length-enumerate_from, get_or-enumerate_from}
+use Rattle.std.specs.List.{enumerate_from, join_by, range_with_len}
+use Rattle.csubset.specs.Text.Names.{word_name}
+use Rattle.csubset.specs.Text.Program.{parameters_text}
+
+-- the first piece, and then each other one behind the separator
+pub join_by-appended : {X : Type 0} (f : X → List ℕ) (separator : List ℕ) (x : X) (others all : List X) (old one new : List ℕ) → all ≡ x ∷ others → one ≡ old ++ f x → new ≡ one ++ flat_map (λ y. separator ++ f y) others → new ≡ old ++ join_by f separator all
+join_by-appended f separator x others all old one new is first more = rw (more, first, is) (simp append_assoc)
+
+range_with_len_more : (a n j : ℕ) → a + n ≡ j → range_with_len a (n + 1) ≡ range_with_len a n ++ j ∷ []
+range_with_len_more a zero j at = ap (λ k. k ∷ []) (omega arith)
+range_with_len_more a (suc n) j at =
+    let next : (a + 1) + n ≡ j = omega arith in
+    let one : n + 1 ≡ suc n = omega arith in
+    rw add-one (ap (λ ks. a ∷ ks) (rw one at (range_with_len_more (a + 1) n j next)))
+
+-- a loop over the numbers from a on, at its next number j
+pub range_step : (f : ℕ → List ℕ) (a j : ℕ) (old before after : List ℕ) → a ≤ j → before ≡ old ++ flat_map f (range_with_len a (j - a)) → after ≡ before ++ f j → after ≡ old ++ flat_map f (range_with_len a (j + 1 - a))
+range_step f a j old before after from so_far next =
+    let count : j + 1 - a ≡ (j - a) + 1 = omega arith in
+    let at : a + (j - a) ≡ j = omega arith in
+    rw (next, so_far, count, range_with_len_more a (j - a) j at, flat_map-append f (range_with_len a (j - a)) (j ∷ []), append-nil (f j)) (simp append_assoc)
+
+-- a loop over elements and their indices, at its next element
+pub enumerated_step : {X : Type 0} (f : ℕ × X → List ℕ) (xs : List X) (i : ℕ) (x : X) (old before after : List ℕ) → i < length xs → x ≡ get_or xs i x → before ≡ old ++ flat_map f (take i (enumerate_from 0 xs)) → after ≡ before ++ f (i, x) → after ≡ old ++ flat_map f (take (i + 1) (enumerate_from 0 xs))
+enumerated_step f xs i x old before after within is so_far next =
+    let long = length-enumerate_from 0 xs in
+    let here = get_or-enumerate_from 0 xs i (i, x) within in
+    grind (arith, common_steps, long, here)
+
+-- and behind the last
+pub enumerated_end : {X : Type 0} (f : ℕ × X → List ℕ) (xs : List X) (i : ℕ) (old now : List ℕ) → length xs ≤ i → now ≡ old ++ flat_map f (take i (enumerate_from 0 xs)) → now ≡ old ++ flat_map f (enumerate_from 0 xs)
+enumerated_end f xs i old now past so_far = grind (arith, common_steps, length-enumerate_from 0 xs)
+
+-- the parameters, of which there is one at least
+pub parameters-appended : (n : ℕ) (old one new : List ℕ) → 0 < n → one ≡ old ++ (codes "W " ++ word_name 0) → new ≡ one ++ flat_map (λ k. codes ", " ++ (codes "W " ++ word_name k)) (range_with_len 1 (n - 1)) → new ≡ old ++ parameters_text n
+parameters-appended zero old one new some first more = absurd (omega arith)
+parameters-appended (suc n) old one new some first more =
+    let count : suc n - 1 ≡ n = omega arith in
+    join_by-appended (λ k. codes "W " ++ word_name k) (codes ", ") 0 (range_with_len 1 n) (range_with_len 0 (suc n)) old one new refl first (rw count at more)
+
+-- the body of a program, part by part
+pub body_parts : (old device tasks resources events alarms regions declarations definitions opening starts closing lines : List ℕ) →
+    (((((((((old ++ device) ++ tasks) ++ resources) ++ events) ++ alarms) ++ regions) ++ declarations) ++ definitions) ++ (opening ++ starts ++ closing)) ++ lines
+    ≡ old ++ (device ++ tasks ++ resources ++ events ++ alarms ++ regions ++ declarations ++ definitions ++ opening ++ starts ++ closing ++ lines)
+body_parts old device tasks resources events alarms regions declarations definitions opening starts closing lines = simp append_assoc
