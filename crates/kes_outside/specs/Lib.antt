@@ -1,5 +1,6 @@
 pub mod Count
 pub mod Contents
+pub mod CountedWriter
 pub mod CallCounts
 pub mod FilesInMemory
 pub mod SinkInMemory

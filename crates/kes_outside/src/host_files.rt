@@ -2,15 +2,13 @@ ghost use Rattle.std.specs.Prelude.{◌≡◌, ◌≢◌, ℕ, ◌≤◌, ◌<�
 ghost use Rattle.std.specs.IoError.{error_kind};
 ghost use Rattle.kes_outside.specs.Count.{one_more};
 
-use std::alloc::Global;
-use std::fs;
-use std::io::Read;
-use std::marker::Model;
-use std::rt;
-
 use crate::count::one_more;
 use crate::files::{FileFault, Files, ReadStop};
 use crate::streams::{fault_of, write_whole};
+use std::alloc::Global;
+use std::io::Read;
+use std::marker::Model;
+use std::{fs, rt};
 
 /// The most bytes of a host file that is read, 1 GiB. One that is longer is a fault.
 pub const MOST_BYTES: u64 = 1_073_741_824;
@@ -61,11 +59,7 @@ fn read_whole<S: Read + Drop>(alloc: Global, source: S) -> Result<Vec<u8>, FileF
     }
 }
 
-fn read_file<R: rt::Files>(
-    runtime: &R,
-    alloc: Global,
-    name: &str,
-) -> Result<Vec<u8>, FileFault>
+fn read_file<R: rt::Files>(runtime: &R, alloc: Global, name: &str) -> Result<Vec<u8>, FileFault>
     ensures { IfOk result (λ bytes. vec_len bytes ≤ MOST_BYTES) }
 {
     match fs::open(runtime, name) {
@@ -117,5 +111,70 @@ impl<'a, R: rt::Files> Files for HostFiles<'a, R> {
             self.faults = one_more(self.faults);
         }
         result
+    }
+}
+
+#[cfg(test)]
+mod tests {
+    use super::*;
+    use std::io;
+    use std::test::Fail;
+
+    #[test]
+    fn host_edge(rt: HostRuntime) -> Result<(), Fail> {
+        let name = "host_edge.tmp";
+        let mut files = HostFiles::new(&rt);
+        files.write(rt.alloc(), name, b"longer than the next")?;
+        files.write(rt.alloc(), name, b"edge\n")?;
+        assert_eq!(rt;
+            files.read(rt.alloc(), name)?.as_slice(),
+            b"edge\n".as_slice()
+        );
+        assert_eq!(rt; files.faults, 0);
+        fs::remove_file(&rt, name)?;
+        assert!(rt; matches!(files.read(rt.alloc(), name), Err(ReadStop::Failed)));
+        assert_eq!(rt; files.faults, 1);
+        assert_eq!(rt;
+            files.write(rt.alloc(), "no such folder/edge", b""),
+            Err(FileFault::Failed)
+        );
+        assert_eq!(rt; files.faults, 2);
+        Ok(())
+    }
+
+    /// Gives one byte, and then this error.
+    #[derive(Drop)]
+    struct Breaking {
+        has_given: bool,
+        kind: io::ErrorKind,
+    }
+
+    impl Read for Breaking {
+        fn read(&mut self, buf: &mut [u8]) -> io::Result<usize> {
+            if self.has_given || buf.is_empty() {
+                return Err(io::Error::from(self.kind));
+            }
+            self.has_given = true;
+            buf[0] = b'x';
+            Ok(1)
+        }
+    }
+
+    #[test]
+    fn a_source_that_breaks_off_is_not_read(rt: HostRuntime) -> Result<(), Fail> {
+        let cases = [
+            (io::ErrorKind::Other, FileFault::Failed),
+            (io::ErrorKind::OutOfMemory, FileFault::NoMemory),
+        ];
+        for (kind, fault) in cases {
+            let source = Breaking {
+                has_given: false,
+                kind,
+            };
+            assert_eq!(rt; read_whole(rt.alloc(), source).err(), Some(fault));
+        }
+        let bytes = read_whole(rt.alloc(), b"all".as_slice())?;
+        assert_eq!(rt; bytes.as_slice(), b"all".as_slice());
+        Ok(())
     }
 }

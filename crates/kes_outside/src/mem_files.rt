@@ -116,3 +116,51 @@ impl Files for MemFiles {
         store(alloc, &mut self.pairs, name, bytes).map_err(|_| FileFault::NoMemory)
     }
 }
+
+#[cfg(test)]
+mod tests {
+    use super::*;
+    use std::test::Fail;
+
+    fn pairs_of(
+        alloc: Global,
+        pairs: &[(&str, &[u8])],
+    ) -> Result<Vec<(String, Vec<u8>)>, AllocError> {
+        let mut files = Vec::new(alloc);
+        for (name, bytes) in pairs {
+            let name = String::from_str(alloc, name)?;
+            files.push((name, Vec::from_slice(alloc, bytes)?))?;
+        }
+        Ok(files)
+    }
+
+    #[test]
+    fn the_first_pair_of_a_name_is_the_file(rt: HostRuntime) -> Result<(), Fail> {
+        let alloc = rt.alloc();
+        let pairs = pairs_of(alloc, &[("a", b"1"), ("a", b"2"), ("b", b"3")])?;
+        let mut files = MemFiles::new(pairs, Vec::new(alloc));
+        assert_eq!(rt; files.get("a"), Some(b"1".as_slice()));
+        assert_eq!(rt; files.read(alloc, "a")?.as_slice(), b"1".as_slice());
+        files.write(alloc, "a", b"4")?;
+        files.write(alloc, "c", b"5")?;
+        assert_eq!(rt; files.get("a"), Some(b"4".as_slice()));
+        assert_eq!(rt; files.get("b"), Some(b"3".as_slice()));
+        assert_eq!(rt; files.get("c"), Some(b"5".as_slice()));
+        assert_eq!(rt; files.get("d"), None);
+        Ok(())
+    }
+
+    #[test]
+    fn fails_at_the_listed_calls(rt: HostRuntime) -> Result<(), Fail> {
+        let alloc = rt.alloc();
+        let pairs = pairs_of(alloc, &[("a", b"1")])?;
+        let failing = vec![in alloc; 1, 3]?;
+        let mut files = MemFiles::new(pairs, failing);
+        assert_eq!(rt; files.read(alloc, "b").err(), Some(ReadStop::Missing));
+        assert_eq!(rt; files.read(alloc, "a").err(), Some(ReadStop::Failed));
+        assert_eq!(rt; files.read(alloc, "a").err(), None);
+        assert_eq!(rt; files.write(alloc, "a", b"2"), Err(FileFault::Failed));
+        assert_eq!(rt; files.get("a"), Some(b"1".as_slice()));
+        Ok(())
+    }
+}

@@ -66,3 +66,22 @@ impl Sink for MemSink {
         }
     }
 }
+
+#[cfg(test)]
+mod tests {
+    use super::*;
+    use std::test::Fail;
+
+    #[test]
+    fn fails_at_the_listed_calls(rt: HostRuntime) -> Result<(), Fail> {
+        let failing = vec![in rt.alloc(); 1, 3]?;
+        let mut sink = MemSink::new(rt.alloc(), failing);
+        assert_eq!(rt; sink.put(rt.alloc(), b"a"), Ok(()));
+        assert_eq!(rt; sink.put(rt.alloc(), b"b"), Err(SinkFault::Failed));
+        assert_eq!(rt; sink.put(rt.alloc(), b"c"), Ok(()));
+        assert_eq!(rt; sink.put(rt.alloc(), b"d"), Err(SinkFault::Failed));
+        assert_eq!(rt; sink.put(rt.alloc(), b"e"), Ok(()));
+        assert_eq!(rt; sink.bytes(), b"ace".as_slice());
+        Ok(())
+    }
+}

@@ -1,12 +1,11 @@
 ghost use Rattle.std.specs.Prelude.{◌≡◌, ℕ, ◌≤◌, ◌<◌, ◌↔◌, IsTrue, Err, IfOk, IfErr, IfSome, OnOk, MatchResult, take, vec_len};
 ghost use Rattle.std.specs.IoError.{error_kind};
-ghost use Rattle.std.specs.Io.KnownBytes.{Appends, Keeps};
-
-use std::io;
-use std::io::{ErrorKind, Write};
+ghost use Rattle.kes_outside.specs.CountedWriter.{HandedOver};
 
 use crate::files::FileFault;
 use crate::sink::SinkFault;
+use std::io;
+use std::io::{ErrorKind, Write};
 
 fn is_want_of_memory(error: &io::Error) -> bool
     ensures { IsTrue result ↔ (error_kind error.now ≡ ErrorKind.OutOfMemory) }
@@ -34,9 +33,7 @@ pub(crate) fn fault_of(error: io::Error) -> FileFault
 /// Hands the whole piece to the writer. A write that was interrupted is tried again, at most 2^64
 /// times for one piece. Want of memory once some bytes are taken is a fault, as any other.
 pub(crate) fn write_whole<W: Write>(writer: &mut W, bytes: &[u8]) -> Result<(), SinkFault>
-    ensures ok { OnOk result (Appends (W.contents writer.old) (W.contents writer.new) bytes.now) }
-    ensures failed { result ≡ Err SinkFault.Failed → ((n : ℕ) × Appends (W.contents writer.old) (W.contents writer.new) (take n bytes.now)) }
-    ensures no_memory { result ≡ Err SinkFault.NoMemory → Keeps (W.contents writer.old) (W.contents writer.new) }
+    ensures { HandedOver (W.contents writer.old) (W.contents writer.new) bytes.now result }
 {
     let mut taken = 0;
     for _ in 0..u64::MAX {

@@ -1,4 +1,4 @@
-use Rattle.std.proofs.Common.{◌≡◌, ◌≤◌, ◌<◌, ◌+◌, ℕ, List, [], ◌++◌, length, take, Option, Some, None, IfSome, Result, Ok, Err, IfOk, MatchResult, Vec, vec_len, subst, ap, ◌∙◌, sym, take_all, arith}
+use Rattle.std.proofs.Common.{◌≡◌, ◌≤◌, ◌<◌, ◌+◌, ℕ, List, length, take, Option, Some, None, IfSome, Result, Ok, Err, IfOk, MatchResult, Vec, vec_len, subst, sym, take_all, arith}
 use Rattle.std.specs.declared.alloc.Global.{Global}
 use Rattle.std.specs.Option.{option_map}
 use Rattle.kes_outside.specs.declared.files.FileFault.{FileFault}

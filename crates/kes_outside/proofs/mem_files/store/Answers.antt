@@ -1,4 +1,4 @@
-use Rattle.std.proofs.Common.{◌≡◌, ℕ, Option, Some, None, ◌++◌, [], ◌∷◌, slice_set, position, sym, ap, ◌∙◌}
+use Rattle.std.proofs.Common.{◌≡◌, ℕ, Option, Some, None, slice_set, position, sym, ap, ◌∙◌}
 use Rattle.std.specs.FinMap.{insert}
 use Rattle.kes_outside.specs.FilesInMemory.{contents_of}
 use Rattle.kes_outside.proofs.Pairs.{is_named, contents_of-set, contents_of-push}

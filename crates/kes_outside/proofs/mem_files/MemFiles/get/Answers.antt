@@ -1,4 +1,4 @@
-use Rattle.std.proofs.Common.{◌≡◌, Option, Some, None, List, ℕ, position, sym, ap, ◌∙◌}
+use Rattle.std.proofs.Common.{◌≡◌, Option, Some, None, ℕ, position, sym, ap, ◌∙◌}
 use Rattle.std.specs.FinMap.{get}
 use Rattle.kes_outside.proofs.Pairs.{is_named, get-contents_of-found, get-contents_of-absent}
 use Rattle.kes_outside.proofs.mem_files.MemFiles.get.Goals as goal
