@@ -9,8 +9,10 @@ use thiserror::Error;
 /// Why a file was not read.
 #[derive(Clone, Copy, Debug, PartialEq, Eq, Error)]
 pub enum ReadStop {
+    /// There is no such file. Only files whose contents are told answer this.
     #[error("there is no such file")]
     Missing,
+    /// A fault, which has been counted.
     #[error("the file cannot be read")]
     Failed,
     #[error("out of memory")]
@@ -20,8 +22,10 @@ pub enum ReadStop {
 /// Why a file was not written.
 #[derive(Clone, Copy, Debug, PartialEq, Eq, Error)]
 pub enum FileFault {
+    /// A fault, which has been counted. The file may hold anything, or be gone.
     #[error("the file cannot be written")]
     Failed,
+    /// No file has changed.
     #[error("out of memory")]
     NoMemory,
 }

@@ -1,5 +1,4 @@
-ghost use Rattle.std.specs.Prelude.{◌≡◌, ◌≢◌, ℕ, ◌≤◌, ◌<◌, ◌↔◌, None, Err, IfOk, IfSome, OnOk, MatchResult, vec_len};
-ghost use Rattle.std.specs.IoError.{error_kind};
+ghost use Rattle.std.specs.Prelude.{◌≡◌, ◌≢◌, ◌≤◌, ◌<◌, None, Err, IfOk, IfSome, OnOk, MatchResult, vec_len};
 ghost use Rattle.kes_outside.specs.Count.{one_more};
 
 use crate::count::one_more;
@@ -39,7 +38,9 @@ impl<'a, R: rt::Files> HostFiles<'a, R> {
 }
 
 fn within_limit(bytes: Vec<u8>) -> Result<Vec<u8>, FileFault>
-    ensures { MatchResult result (λ kept. (kept ≡ bytes) × (vec_len bytes ≤ MOST_BYTES)) (λ fault. (fault ≡ FileFault.Failed) × (MOST_BYTES < vec_len bytes)) }
+    ensures { MatchResult result
+        (λ kept. (kept ≡ bytes) × (vec_len bytes ≤ MOST_BYTES))
+        (λ fault. (fault ≡ FileFault.Failed) × (MOST_BYTES < vec_len bytes)) }
 {
     if bytes.len() as u64 > MOST_BYTES {
         return Err(FileFault::Failed);
@@ -68,8 +69,8 @@ fn read_file<R: rt::Files>(runtime: &R, alloc: Global, name: &str) -> Result<Vec
     }
 }
 
-/// From the moment that the file is open it has lost what it held. So want of memory after that is
-/// a fault.
+/// Once it is open for writing, the file has lost what it held: from then on want of memory is a
+/// fault too.
 fn write_file<R: rt::Files>(runtime: &R, name: &str, bytes: &[u8]) -> Result<(), FileFault> {
     match fs::create(runtime, name) {
         Ok(mut file) => write_whole(&mut file, bytes).map_err(|_| FileFault::Failed),

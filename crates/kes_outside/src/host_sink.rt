@@ -1,4 +1,4 @@
-ghost use Rattle.std.specs.Prelude.{◌≡◌, ℕ, ◌≤◌, None, Err, OnOk};
+ghost use Rattle.std.specs.Prelude.{◌≡◌, ◌≤◌, None, Err, OnOk};
 ghost use Rattle.kes_outside.specs.Count.{one_more};
 ghost use Rattle.kes_outside.specs.CountedWriter.{HandedOver};
 

@@ -1,5 +1,4 @@
-ghost use Rattle.std.specs.Prelude.{◌≡◌, ℕ, ◌≤◌, ◌++◌, [], ◌↔◌, IsTrue, Some, Err, IfSome, OnOk, OnErr, take};
-ghost use Rattle.kes_outside.specs.Count.{Rose};
+ghost use Rattle.std.specs.Prelude.{◌≡◌, ◌≤◌, ◌++◌, [], ◌↔◌, IsTrue, Some, Err, OnOk, OnErr};
 ghost use Rattle.kes_outside.specs.CallCounts.{after_call, fails, no_calls};
 
 use crate::calls::Calls;

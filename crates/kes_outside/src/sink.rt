@@ -7,8 +7,10 @@ use thiserror::Error;
 /// Why a piece was not taken.
 #[derive(Clone, Copy, Debug, PartialEq, Eq, Error)]
 pub enum SinkFault {
+    /// A fault, which has been counted. The piece's first bytes may have been taken.
     #[error("the piece was not taken whole")]
     Failed,
+    /// No byte of the piece was taken.
     #[error("out of memory")]
     NoMemory,
 }
