@@ -50,7 +50,9 @@ fn append_body(out: &mut Vec<u8>, program: &CProgram) -> Result<(), NoMemory>
 }
 
 fn append_device(out: &mut Vec<u8>, base: u32) -> Result<(), NoMemory>
-    ensures { OnOk result (out.new.items ≡ out.old.items ++ line (codes "#define KDEV " ++ decimal base ++ codes "ul")) }
+    ensures { OnOk result (
+        out.new.items ≡ out.old.items
+        ++ line (codes "#define KDEV " ++ decimal base ++ codes "ul")) }
 {
     out.extend_from_slice(b"#define KDEV ")?;
     append_decimal(out, u64::from(base))?;
@@ -60,7 +62,9 @@ fn append_device(out: &mut Vec<u8>, base: u32) -> Result<(), NoMemory>
 
 /// A Declare line for each name. `opening` is the line up to the name.
 fn append_objects(out: &mut Vec<u8>, opening: &[u8], names: &[Items<u8>]) -> Result<(), NoMemory>
-    ensures { OnOk result (out.new.items ≡ out.old.items ++ flat_map (λ name. line (opening.now ++ name ++ codes ");")) names.now) }
+    ensures { OnOk result (
+        out.new.items ≡ out.old.items
+        ++ flat_map (λ name. line (opening.now ++ name ++ codes ");")) names.now) }
 {
     for name in names {
         out.extend_from_slice(opening)?;
@@ -71,7 +75,9 @@ fn append_objects(out: &mut Vec<u8>, opening: &[u8], names: &[Items<u8>]) -> Res
 }
 
 fn append_regions(out: &mut Vec<u8>, regions: &[CRegion]) -> Result<(), NoMemory>
-    ensures { OnOk result (out.new.items ≡ out.old.items ++ flat_map (λ r. region_line r.0 r.1) (enumerate_from 0 regions.now)) }
+    ensures { OnOk result (
+        out.new.items ≡ out.old.items
+        ++ flat_map (λ r. region_line r.0 r.1) (enumerate_from 0 regions.now)) }
 {
     for (number, region) in regions.iter().enumerate() {
         append_region_line(out, number as u64, region)?;
@@ -108,7 +114,10 @@ fn append_first_words(out: &mut Vec<u8>, words: &[u64]) -> Result<(), NoMemory>
 }
 
 fn append_startup(out: &mut Vec<u8>, starts: &[u32]) -> Result<(), NoMemory>
-    ensures { OnOk result (out.new.items ≡ out.old.items ++ (line (codes "void StartupHook(void) {") ++ flat_map start_line starts.now ++ line (codes "}"))) }
+    ensures { OnOk result (
+        out.new.items ≡ out.old.items
+        ++ (line (codes "void StartupHook(void) {") ++ flat_map start_line starts.now
+        ++ line (codes "}"))) }
 {
     out.extend_from_slice(b"void StartupHook(void) {\n")?;
     append_starts(out, starts)?;

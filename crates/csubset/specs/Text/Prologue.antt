@@ -1,5 +1,6 @@
--- The lines that every program begins with: ISO C99 with <stdint.h>, and the kernel's header "os.h" (OSEK/VDX OS 2.2.3).
--- They give a program its word type, its loads and stores, its operators and its services.
+-- The lines that every program begins with: ISO C99 with <stdint.h>, and the kernel's header "os.h"
+-- (OSEK/VDX OS 2.2.3). They give a program its word type, its loads and stores, its operators and its
+-- services.
 use Rattle.std.specs.Prelude.{ℕ, List, [], ◌∷◌, ◌++◌, codes, flat_map}
 use Rattle.csubset.specs.Text.Line.{line}
 
@@ -72,7 +73,7 @@ operator_lines =
     ∷ codes "static W LTU(W a, W b) { return a < b; }"
     ∷ []
 
--- the services of the kernel; a service that answers through a pointer gives its status, negated, or the answer
+-- the services of the kernel; one that answers through a pointer gives the answer, or its status negated
 abbrev pub service_lines : List (List ℕ)
 service_lines =
     codes "#define K_ActivateTask(t) ((W)ActivateTask(t))"
@@ -100,5 +101,11 @@ control_lines =
     ∷ codes "#define KTASK(t, f) TASK(t) { (void)f(); (void)TerminateTask(); FAIL(0) }"
     ∷ []
 
+-- It is long, so a proof computes it only where it asks for that.
 unfoldable pub prologue : List ℕ
-prologue = flat_map line heading_lines ++ flat_map line memory_lines ++ flat_map line operator_lines ++ flat_map line service_lines ++ flat_map line control_lines
+prologue =
+    flat_map line heading_lines
+    ++ flat_map line memory_lines
+    ++ flat_map line operator_lines
+    ++ flat_map line service_lines
+    ++ flat_map line control_lines

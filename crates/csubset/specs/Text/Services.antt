@@ -16,12 +16,18 @@ service_text TerminateTask = codes "K_TerminateTask()"
 service_text (ChainTask task) = codes "K_ChainTask(" ++ task_name task ++ codes ")"
 service_text Schedule = codes "K_Schedule()"
 service_text (GetResource resource) = codes "K_GetResource(" ++ resource_name resource ++ codes ")"
-service_text (ReleaseResource resource) = codes "K_ReleaseResource(" ++ resource_name resource ++ codes ")"
-service_text (SetEvent task events) = codes "K_SetEvent(" ++ task_name task ++ codes ", " ++ mask_text events ++ codes ")"
+service_text (ReleaseResource resource) =
+    codes "K_ReleaseResource(" ++ resource_name resource ++ codes ")"
+service_text (SetEvent task events) =
+    codes "K_SetEvent(" ++ task_name task ++ codes ", " ++ mask_text events ++ codes ")"
 service_text (ClearEvent events) = codes "K_ClearEvent(" ++ mask_text events ++ codes ")"
 service_text (GetEvent task) = codes "K_GetEvent(" ++ task_name task ++ codes ")"
 service_text (WaitEvent events) = codes "K_WaitEvent(" ++ mask_text events ++ codes ")"
-service_text (SetRelAlarm alarm first cycle) = codes "K_SetRelAlarm(" ++ alarm_name alarm ++ codes ", " ++ atom_text first ++ codes ", " ++ atom_text cycle ++ codes ")"
-service_text (SetAbsAlarm alarm first cycle) = codes "K_SetAbsAlarm(" ++ alarm_name alarm ++ codes ", " ++ atom_text first ++ codes ", " ++ atom_text cycle ++ codes ")"
+service_text (SetRelAlarm alarm first cycle) =
+    codes "K_SetRelAlarm(" ++ alarm_name alarm
+    ++ codes ", " ++ atom_text first ++ codes ", " ++ atom_text cycle ++ codes ")"
+service_text (SetAbsAlarm alarm first cycle) =
+    codes "K_SetAbsAlarm(" ++ alarm_name alarm
+    ++ codes ", " ++ atom_text first ++ codes ", " ++ atom_text cycle ++ codes ")"
 service_text (CancelAlarm alarm) = codes "K_CancelAlarm(" ++ alarm_name alarm ++ codes ")"
 service_text (GetAlarm alarm) = codes "K_GetAlarm(" ++ alarm_name alarm ++ codes ")"

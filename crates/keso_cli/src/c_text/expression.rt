@@ -19,7 +19,8 @@ pub fn append_atom(out: &mut Vec<u8>, atom: &Atom) -> Result<(), NoMemory>
 
 /// The atoms, with commas between them.
 pub fn append_atoms(out: &mut Vec<u8>, atoms: &[Atom]) -> Result<(), NoMemory>
-    ensures { OnOk result (out.new.items ≡ out.old.items ++ join_by atom_text (codes ", ") atoms.now) }
+    ensures { OnOk result (
+        out.new.items ≡ out.old.items ++ join_by atom_text (codes ", ") atoms.now) }
 {
     let Some((first, others)) = atoms.split_first() else {
         return Ok(());

@@ -11,7 +11,9 @@ use csubset::CFunction;
 use kes_text::NoMemory;
 
 pub fn append_declarations(out: &mut Vec<u8>, functions: &[CFunction]) -> Result<(), NoMemory>
-    ensures { OnOk result (out.new.items ≡ out.old.items ++ flat_map (λ f. function_declaration f.0 f.1) (enumerate_from 0 functions.now)) }
+    ensures { OnOk result (
+        out.new.items ≡ out.old.items
+        ++ flat_map (λ f. function_declaration f.0 f.1) (enumerate_from 0 functions.now)) }
 {
     for (number, function) in functions.iter().enumerate() {
         append_declaration(out, number as u64, function)?;
@@ -20,7 +22,9 @@ pub fn append_declarations(out: &mut Vec<u8>, functions: &[CFunction]) -> Result
 }
 
 pub fn append_definitions(out: &mut Vec<u8>, functions: &[CFunction]) -> Result<(), NoMemory>
-    ensures { OnOk result (out.new.items ≡ out.old.items ++ flat_map (λ f. function_text f.0 f.1) (enumerate_from 0 functions.now)) }
+    ensures { OnOk result (
+        out.new.items ≡ out.old.items
+        ++ flat_map (λ f. function_text f.0 f.1) (enumerate_from 0 functions.now)) }
 {
     for (number, function) in functions.iter().enumerate() {
         append_definition(out, number as u64, function)?;
@@ -29,7 +33,8 @@ pub fn append_definitions(out: &mut Vec<u8>, functions: &[CFunction]) -> Result<
 }
 
 fn append_declaration(out: &mut Vec<u8>, number: u64, function: &CFunction) -> Result<(), NoMemory>
-    ensures { OnOk result (out.new.items ≡ out.old.items ++ function_declaration number function.now) }
+    ensures { OnOk result (
+        out.new.items ≡ out.old.items ++ function_declaration number function.now) }
 {
     append_heading(out, number, function)?;
     out.extend_from_slice(b";\n")
@@ -78,7 +83,9 @@ fn append_parameter(out: &mut Vec<u8>, before: &[u8], word: u32) -> Result<(), N
 }
 
 fn append_further_words(out: &mut Vec<u8>, function: &CFunction) -> Result<(), NoMemory>
-    ensures { OnOk result (out.new.items ≡ out.old.items ++ flat_map further_word (range_with_len function.now.parameters function.now.further)) }
+    ensures { OnOk result (
+        out.new.items ≡ out.old.items
+        ++ flat_map further_word (range_with_len function.now.parameters function.now.further)) }
 {
     let first = u64::from(function.parameters);
     for word in first..first + u64::from(function.further) {

@@ -43,7 +43,8 @@ pub fn append_service(out: &mut Vec<u8>, service: &CService) -> Result<(), NoMem
 
 /// A call of a service of one object. `opening` is the call up to the object's name.
 fn append_call(out: &mut Vec<u8>, opening: &[u8], name: &Items<u8>) -> Result<(), NoMemory>
-    ensures { OnOk result (out.new.items ≡ out.old.items ++ (opening.now ++ name.now ++ codes ")")) }
+    ensures { OnOk result (
+        out.new.items ≡ out.old.items ++ (opening.now ++ name.now ++ codes ")")) }
 {
     append_opening(out, opening, name)?;
     out.extend_from_slice(b")")
@@ -62,7 +63,8 @@ fn append_last_mask(
     before: &[u8],
     events: &Items<Items<u8>>,
 ) -> Result<(), NoMemory>
-    ensures { OnOk result (out.new.items ≡ out.old.items ++ (before.now ++ mask_text events.now ++ codes ")")) }
+    ensures { OnOk result (
+        out.new.items ≡ out.old.items ++ (before.now ++ mask_text events.now ++ codes ")")) }
 {
     out.extend_from_slice(before)?;
     append_mask(out, events.as_slice())?;
@@ -74,7 +76,8 @@ fn append_set_event(
     task: &Items<u8>,
     events: &Items<Items<u8>>,
 ) -> Result<(), NoMemory>
-    ensures { OnOk result (out.new.items ≡ out.old.items ++ service_text (CService.SetEvent task.now events.now)) }
+    ensures { OnOk result (
+        out.new.items ≡ out.old.items ++ service_text (CService.SetEvent task.now events.now)) }
 {
     append_opening(out, b"K_SetEvent(t_", task)?;
     append_last_mask(out, b", ", events)
@@ -88,7 +91,10 @@ fn append_alarm_start(
     first: &Atom,
     cycle: &Atom,
 ) -> Result<(), NoMemory>
-    ensures { OnOk result (out.new.items ≡ out.old.items ++ (opening.now ++ alarm.now ++ codes ", " ++ atom_text first.now ++ codes ", " ++ atom_text cycle.now ++ codes ")")) }
+    ensures { OnOk result (
+        out.new.items ≡ out.old.items
+        ++ (opening.now ++ alarm.now ++ codes ", " ++ atom_text first.now ++ codes ", "
+        ++ atom_text cycle.now ++ codes ")")) }
 {
     append_opening(out, opening, alarm)?;
     out.extend_from_slice(b", ")?;

@@ -14,7 +14,8 @@ use kes_text::NoMemory;
 use sqlite_items::Items;
 
 pub fn append_statements(out: &mut Vec<u8>, statements: &[Stmt]) -> Result<(), NoMemory>
-    ensures { OnOk result (out.new.items ≡ out.old.items ++ flat_map statement_text statements.now) }
+    ensures { OnOk result (
+        out.new.items ≡ out.old.items ++ flat_map statement_text statements.now) }
 {
     for statement in statements {
         append_statement(out, statement)?;
@@ -100,7 +101,8 @@ fn append_load(
     region: u32,
     at: &Atom,
 ) -> Result<(), NoMemory>
-    ensures { OnOk result (out.new.items ≡ out.old.items ++ form_text (Form.Load to bytes region at.now)) }
+    ensures { OnOk result (
+        out.new.items ≡ out.old.items ++ form_text (Form.Load to bytes region at.now)) }
 {
     append_target(out, to)?;
     out.extend_from_slice(b"LD")?;
@@ -119,7 +121,8 @@ fn append_store(
     at: &Atom,
     value: &Atom,
 ) -> Result<(), NoMemory>
-    ensures { OnOk result (out.new.items ≡ out.old.items ++ form_text (Form.Store bytes region at.now value.now)) }
+    ensures { OnOk result (
+        out.new.items ≡ out.old.items ++ form_text (Form.Store bytes region at.now value.now)) }
 {
     out.extend_from_slice(b"ST")?;
     append_decimal(out, u64::from(bytes))?;
@@ -133,7 +136,8 @@ fn append_store(
 }
 
 fn append_device_load(out: &mut Vec<u8>, to: u32, bytes: u8, at: &Atom) -> Result<(), NoMemory>
-    ensures { OnOk result (out.new.items ≡ out.old.items ++ form_text (Form.DeviceLoad to bytes at.now)) }
+    ensures { OnOk result (
+        out.new.items ≡ out.old.items ++ form_text (Form.DeviceLoad to bytes at.now)) }
 {
     append_target(out, to)?;
     out.extend_from_slice(b"DLD")?;
@@ -149,7 +153,8 @@ fn append_device_store(
     at: &Atom,
     value: &Atom,
 ) -> Result<(), NoMemory>
-    ensures { OnOk result (out.new.items ≡ out.old.items ++ form_text (Form.DeviceStore bytes at.now value.now)) }
+    ensures { OnOk result (
+        out.new.items ≡ out.old.items ++ form_text (Form.DeviceStore bytes at.now value.now)) }
 {
     out.extend_from_slice(b"DST")?;
     append_decimal(out, u64::from(bytes))?;
@@ -184,7 +189,8 @@ fn append_switch(
     cases: &Items<(u64, u32)>,
     other: u32,
 ) -> Result<(), NoMemory>
-    ensures { OnOk result (out.new.items ≡ out.old.items ++ form_text (Form.Switch on.now cases.now other)) }
+    ensures { OnOk result (
+        out.new.items ≡ out.old.items ++ form_text (Form.Switch on.now cases.now other)) }
 {
     out.extend_from_slice(b"switch (")?;
     append_atom(out, on)?;
@@ -208,7 +214,9 @@ fn append_cases(out: &mut Vec<u8>, cases: &[(u64, u32)]) -> Result<(), NoMemory>
 
 /// The end of a switch.
 fn append_default(out: &mut Vec<u8>, label: u32) -> Result<(), NoMemory>
-    ensures { OnOk result (out.new.items ≡ out.old.items ++ (codes "default: goto " ++ label_name label ++ codes "; }")) }
+    ensures { OnOk result (
+        out.new.items ≡ out.old.items
+        ++ (codes "default: goto " ++ label_name label ++ codes "; }")) }
 {
     out.extend_from_slice(b"default: goto ")?;
     append_label(out, label)?;
@@ -221,7 +229,8 @@ fn append_call(
     function: u32,
     arguments: &Items<Atom>,
 ) -> Result<(), NoMemory>
-    ensures { OnOk result (out.new.items ≡ out.old.items ++ form_text (Form.Call to function arguments.now)) }
+    ensures { OnOk result (
+        out.new.items ≡ out.old.items ++ form_text (Form.Call to function arguments.now)) }
 {
     append_target(out, to)?;
     append_function(out, u64::from(function))?;
@@ -239,7 +248,8 @@ fn append_return(out: &mut Vec<u8>, value: &Atom) -> Result<(), NoMemory>
 }
 
 fn append_service_call(out: &mut Vec<u8>, to: u32, service: &CService) -> Result<(), NoMemory>
-    ensures { OnOk result (out.new.items ≡ out.old.items ++ form_text (Form.Service to service.now)) }
+    ensures { OnOk result (
+        out.new.items ≡ out.old.items ++ form_text (Form.Service to service.now)) }
 {
     append_target(out, to)?;
     append_service(out, service)?;

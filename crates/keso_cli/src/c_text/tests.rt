@@ -109,9 +109,9 @@ KTASK(t_main, f0)
 }
 
 #[test]
-fn prints_every_operator(rt: HostRuntime) -> Result<(), Fail> {
+fn prints_operators_on_one_word(rt: HostRuntime) -> Result<(), Fail> {
     let alloc = rt.alloc();
-    let ones = [
+    let operators = [
         (OneOp::Lo4, "LO4(w7)"),
         (OneOp::Sx4, "SX4(w7)"),
         (OneOp::Sb4, "SB4(w7)"),
@@ -119,13 +119,19 @@ fn prints_every_operator(rt: HostRuntime) -> Result<(), Fail> {
         (OneOp::Zb, "ZB(w7)"),
         (OneOp::Zh, "ZH(w7)"),
     ];
-    for (op, wanted) in ones {
+    for (op, wanted) in operators {
         let a = Boxed::new(alloc, Expr::Atom(Atom::Word(7)))?;
         let mut text = Vec::new(alloc);
         append_expression(&mut text, &Expr::One { op, a })?;
         assert_eq!(rt; text.as_slice(), wanted.as_bytes(), "{op:?}");
     }
-    let twos = [
+    Ok(())
+}
+
+#[test]
+fn prints_operators_on_two_words(rt: HostRuntime) -> Result<(), Fail> {
+    let alloc = rt.alloc();
+    let operators = [
         (TwoOp::Add8, "ADD8(w1, 2ull)"),
         (TwoOp::Sub8, "SUB8(w1, 2ull)"),
         (TwoOp::Mul8, "MUL8(w1, 2ull)"),
@@ -152,7 +158,7 @@ fn prints_every_operator(rt: HostRuntime) -> Result<(), Fail> {
         (TwoOp::Lt4, "LT4(w1, 2ull)"),
         (TwoOp::Cmp8, "CMP8(w1, 2ull)"),
     ];
-    for (op, wanted) in twos {
+    for (op, wanted) in operators {
         let a = Boxed::new(alloc, Expr::Atom(Atom::Word(1)))?;
         let b = Boxed::new(alloc, Expr::Atom(Atom::Number(2)))?;
         let mut text = Vec::new(alloc);
@@ -162,97 +168,72 @@ fn prints_every_operator(rt: HostRuntime) -> Result<(), Fail> {
     Ok(())
 }
 
-/// The forms that are no service, each once, with label lines before the first and the last.
-fn push_forms(statements: &mut Items<Stmt>, alloc: Global) -> Result<(), AllocError> {
-    let value = Expr::Two {
-        op: TwoOp::Add8,
-        a: Boxed::new(alloc, Expr::Atom(Atom::Word(0)))?,
-        b: Boxed::new(alloc, Expr::Atom(Atom::Number(u64::MAX)))?,
-    };
-    statements.push(Stmt {
-        labels: Items::from_slice(alloc, &[0, 7])?,
-        form: Form::Assign { to: 2, value },
-    })?;
-    let at = Atom::Number(6);
+/// Loads, stores and an assignment, with label lines before the first.
+fn push_accesses(statements: &mut Items<Stmt>, alloc: Global) -> Result<(), AllocError> {
+    let a = Boxed::new(alloc, Expr::Atom(Atom::Word(0)))?;
+    let b = Boxed::new(alloc, Expr::Atom(Atom::Number(u64::MAX)))?;
+    let op = TwoOp::Add8;
+    let value = Expr::Two { op, a, b };
+    let form = Form::Assign { to: 2, value };
+    let labels = Items::from_slice(alloc, &[0, 7])?;
+    statements.push(Stmt { labels, form })?;
+    let (to, bytes, region, at) = (3, 2, 1, Atom::Number(6));
     push(
         statements,
         alloc,
         Form::Load {
-            to: 3,
-            bytes: 2,
-            region: 1,
+            to,
+            bytes,
+            region,
             at,
         },
     )?;
-    let (at, value) = (Atom::Word(3), Atom::Number(0));
+    let (bytes, region, at, value) = (8, 1, Atom::Word(3), Atom::Number(0));
     push(
         statements,
         alloc,
         Form::Store {
-            bytes: 8,
-            region: 1,
+            bytes,
+            region,
             at,
             value,
         },
     )?;
-    push(
-        statements,
-        alloc,
-        Form::DeviceLoad {
-            to: 3,
-            bytes: 4,
-            at: Atom::Word(2),
-        },
-    )?;
-    let (at, value) = (Atom::Number(16), Atom::Word(3));
-    push(
-        statements,
-        alloc,
-        Form::DeviceStore {
-            bytes: 1,
-            at,
-            value,
-        },
-    )?;
+    let (to, bytes, at) = (3, 4, Atom::Word(2));
+    push(statements, alloc, Form::DeviceLoad { to, bytes, at })?;
+    let (bytes, at, value) = (1, Atom::Number(16), Atom::Word(3));
+    push(statements, alloc, Form::DeviceStore { bytes, at, value })
+}
+
+/// The other forms that are no service, with a label line before a jump.
+fn push_jumps(statements: &mut Items<Stmt>, alloc: Global) -> Result<(), AllocError> {
     let test = Expr::Atom(Atom::Word(2));
     push(statements, alloc, Form::If { test, label: 0 })?;
     let cases = Items::from_slice(alloc, &[(1, 0), (300, 7)])?;
-    push(
-        statements,
-        alloc,
-        Form::Switch {
-            on: Atom::Word(2),
-            cases,
-            other: 1,
-        },
-    )?;
+    let (on, other) = (Atom::Word(2), 1);
+    push(statements, alloc, Form::Switch { on, cases, other })?;
     push(statements, alloc, Form::Suspend)?;
     push(statements, alloc, Form::Resume)?;
     let arguments = Items::from_slice(alloc, &[Atom::Word(1), Atom::Number(3)])?;
+    let (to, function) = (0, 0);
     push(
         statements,
         alloc,
         Form::Call {
-            to: 0,
-            function: 0,
+            to,
+            function,
             arguments,
         },
     )?;
     push(statements, alloc, Form::Fail { number: 2 })?;
-    statements.push(Stmt {
-        labels: Items::from_slice(alloc, &[1])?,
-        form: Form::Goto { label: 7 },
-    })?;
-    push(
-        statements,
-        alloc,
-        Form::Return {
-            value: Atom::Word(2),
-        },
-    )
+    let labels = Items::from_slice(alloc, &[1])?;
+    let form = Form::Goto { label: 7 };
+    statements.push(Stmt { labels, form })?;
+    let value = Atom::Word(2);
+    push(statements, alloc, Form::Return { value })
 }
 
-/// Each service once.
+/// The services of tasks, resources and events.
 fn push_services(statements: &mut Items<Stmt>, alloc: Global) -> Result<(), AllocError> {
     let task = name(alloc, "a")?;
     push_service(statements, alloc, CService::ActivateTask { task })?;
@@ -271,8 +252,12 @@ fn push_services(statements: &mut Items<Stmt>, alloc: Global) -> Result<(), Allo
     let task = name(alloc, "a")?;
     push_service(statements, alloc, CService::GetEvent { task })?;
     let events = names(alloc, &["stop", "go"])?;
-    push_service(statements, alloc, CService::WaitEvent { events })?;
-    let (alarm, first, cycle) = (name(alloc, "beat")?, Atom::Word(0), Atom::Number(10));
+    push_service(statements, alloc, CService::WaitEvent { events })
+}
+
+fn push_alarm_services(statements: &mut Items<Stmt>, alloc: Global) -> Result<(), AllocError> {
+    let alarm = name(alloc, "beat")?;
+    let (first, cycle) = (Atom::Word(0), Atom::Number(10));
     push_service(
         statements,
         alloc,
@@ -282,7 +267,8 @@ fn push_services(statements: &mut Items<Stmt>, alloc: Global) -> Result<(), Allo
             cycle,
         },
     )?;
-    let (alarm, first, cycle) = (name(alloc, "beat")?, Atom::Number(9), Atom::Word(1));
+    let alarm = name(alloc, "beat")?;
+    let (first, cycle) = (Atom::Number(9), Atom::Word(1));
     push_service(
         statements,
         alloc,
@@ -300,7 +286,8 @@ fn push_services(statements: &mut Items<Stmt>, alloc: Global) -> Result<(), Allo
 
 fn whole_program(alloc: Global) -> Result<CProgram, AllocError> {
     let mut statements = Items::new(alloc);
-    push_forms(&mut statements, alloc)?;
+    push_accesses(&mut statements, alloc)?;
+    push_jumps(&mut statements, alloc)?;
     let forms = CFunction {
         parameters: 2,
         further: 2,
@@ -309,6 +296,7 @@ fn whole_program(alloc: Global) -> Result<CProgram, AllocError> {
     };
     let mut statements = Items::new(alloc);
     push_services(&mut statements, alloc)?;
+    push_alarm_services(&mut statements, alloc)?;
     let services = CFunction {
         parameters: 1,
         further: 0,
