@@ -9,16 +9,16 @@ mod statement;
 #[cfg(test)]
 mod tests;
 
-ghost use Rattle.std.specs.Prelude.{◌≡◌, [], ◌∷◌, ◌++◌, codes, decimal, flat_map, IfOk, OnOk};
+ghost use Rattle.std.specs.Prelude.{◌≡◌, ◌++◌, codes, decimal, flat_map, IfOk, OnOk};
 ghost use Rattle.std.specs.List.{enumerate_from};
 ghost use Rattle.csubset.specs.Text.Line.{line};
 ghost use Rattle.csubset.specs.Text.Program.{body_text, first_words, program_text, region_line, start_line, task_line};
 
 use crate::c_text::function::{append_declarations, append_definitions};
-use crate::c_text::name::{append_decimal, append_function, append_number, append_region};
+use crate::c_text::name::{append_function, append_number, append_region};
 use crate::c_text::prologue::prologue_text;
 use csubset::{CProgram, CRegion, CTask};
-use kes_text::NoMemory;
+use kes_text::{NoMemory, append_decimal};
 use sqlite_items::Items;
 use std::alloc::Global;
 

@@ -1,17 +1,9 @@
-//! Numbered names, and the names of the kernel's objects behind their prefixes.
+//! Numbers, and the names of words, labels, regions and functions.
 
-ghost use Rattle.std.specs.Prelude.{◌≡◌, ◌∷◌, ◌++◌, OnOk, OnErr, decimal};
-ghost use Rattle.csubset.specs.Text.Names.{word_name, label_name, region_name, function_name, number_text};
+ghost use Rattle.std.specs.Prelude.{◌≡◌, ◌++◌, OnOk};
+ghost use Rattle.csubset.specs.Text.Names.{function_name, label_name, number_text, region_name, word_name};
 
-use itoa::Buffer;
-use kes_text::NoMemory;
-
-pub fn append_decimal(out: &mut Vec<u8>, number: u64) -> Result<(), NoMemory>
-    ensures ok { OnOk result (out.new.items ≡ out.old.items ++ decimal number) }
-    ensures err { OnErr result (out.new.items ≡ out.old.items) }
-{
-    out.extend_from_slice(Buffer::new().format(number).as_bytes())
-}
+use kes_text::{NoMemory, append_decimal};
 
 pub fn append_number(out: &mut Vec<u8>, number: u64) -> Result<(), NoMemory>
     ensures { OnOk result (out.new.items ≡ out.old.items ++ number_text number) }

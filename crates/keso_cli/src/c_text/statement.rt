@@ -6,11 +6,11 @@ ghost use Rattle.csubset.specs.Text.Statements.{case_text, form_text, label_line
 
 use crate::c_text::expression::{append_atom, append_atoms, append_expression};
 use crate::c_text::name::{
-    append_decimal, append_function, append_label, append_number, append_region, append_word,
+    append_function, append_label, append_number, append_region, append_word,
 };
 use crate::c_text::service::append_service;
 use csubset::{Atom, CService, Expr, Form, Stmt};
-use kes_text::NoMemory;
+use kes_text::{NoMemory, append_decimal};
 use sqlite_items::Items;
 
 pub fn append_statements(out: &mut Vec<u8>, statements: &[Stmt]) -> Result<(), NoMemory>
