@@ -1,0 +1,3 @@
+-- The definitions that contracts cite: the kernel, and what the bytecode does under it.
+pub mod Kernel
+pub mod Worked

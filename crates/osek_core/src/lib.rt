@@ -2,13 +2,17 @@
 #![tactic(auto)]
 
 mod call;
+mod control;
 mod event;
 mod moves;
 mod tables;
+mod worked;
 
 pub use call::Call;
+pub use control::{TaskControl, TaskState};
 pub use event::{Event, FailKind, Place, Who};
 pub use moves::{Move, PokeBytes};
 pub use tables::{
     Action, AlarmRow, CounterRow, CounterRule, Name, Start, Tables, TaskRow, TaskRule,
 };
+pub use worked::preempted_stays_first;
