@@ -5,6 +5,7 @@ mod call;
 mod control;
 mod event;
 mod moves;
+mod scheduler;
 mod tables;
 mod worked;
 
@@ -12,6 +13,7 @@ pub use call::Call;
 pub use control::{TaskControl, TaskState};
 pub use event::{Event, FailKind, Place, Who};
 pub use moves::{Move, PokeBytes};
+pub use scheduler::Core;
 pub use tables::{
     Action, AlarmRow, CounterRow, CounterRule, Name, Start, Tables, TaskRow, TaskRule,
 };
