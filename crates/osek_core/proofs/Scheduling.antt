@@ -13,7 +13,7 @@ use Rattle.osek_core.specs.declared.tables.TaskRule.{TaskRule}
 use Rattle.osek_core.specs.declared.control.TaskControl.{TaskControl}
 use Rattle.osek_core.specs.declared.control.TaskState.{TaskState}
 use Rattle.osek_core.specs.declared.control.TaskState.TheVariants.{Suspended, Ready, Running, Waiting}
-use Rattle.osek_core.specs.Core.Value.{IsTaskRule}
+use Rattle.osek_core.specs.Tables.Limits.{IsTaskRule}
 use Rattle.osek_core.specs.Core.Queue.{queue, resources_of, top_job, without_first, with_top_running}
 use Rattle.osek_core.specs.Core.Kept.{IsSound, IsJob, scheduled, scheduler_of, priority_of}
 use Rattle.osek_core.specs.Kernel.Rules.{no_task}

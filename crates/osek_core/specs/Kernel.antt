@@ -13,3 +13,4 @@ pub mod Service
 pub mod Tick
 pub mod Start
 pub mod System
+pub mod Invariant

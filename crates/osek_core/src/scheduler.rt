@@ -2,7 +2,7 @@
 ghost use Rattle.std.specs.Prelude.{◌≡◌, ℕ, ◌+◌, ◌<◌, ◌≤◌, ◌↔◌, All, IfOk, IfSome, IsSome, IsTrue, length, nat_eq, position, slice_set, slice_index_or, vec_capacity};
 ghost use Rattle.std.specs.List.{list_any};
 ghost use Rattle.osek_core.specs.Core.Queue.{higher, top_job, resources_of, without_first, with_top_running};
-ghost use Rattle.osek_core.specs.Core.Value.{IsTaskRule};
+ghost use Rattle.osek_core.specs.Tables.Limits.{IsTaskRule};
 ghost use Rattle.osek_core.specs.Kernel.Dispatch.{dispatch};
 ghost use Rattle.osek_core.specs.Kernel.Scheduler.{running, caller, is_running, idle};
 ghost use Rattle.osek_core.specs.Kernel.State.{first_scheduler};

@@ -6,7 +6,8 @@ use Rattle.osek_core.specs.declared.scheduler.Holding.{Holding}
 use Rattle.osek_core.specs.declared.tables.TaskRule.{TaskRule}
 use Rattle.osek_core.specs.declared.control.TaskState.TheVariants.{Running}
 use Rattle.osek_core.specs.declared.control.TaskControl.{TaskControl}
-use Rattle.osek_core.specs.Core.Value.{Scheduled, IsTaskRule}
+use Rattle.osek_core.specs.Core.Value.{Scheduled}
+use Rattle.osek_core.specs.Tables.Limits.{IsTaskRule}
 use Rattle.osek_core.specs.Core.Queue.{queue, queues, resources_of}
 use Rattle.osek_core.specs.Kernel.Rules.{no_task}
 use Rattle.osek_core.specs.Kernel.Scheduler.{Scheduler, idle}

@@ -1,0 +1,2 @@
+-- What a run shows.
+pub mod Text

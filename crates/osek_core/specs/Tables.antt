@@ -1,0 +1,3 @@
+-- The tables of an application.
+pub mod Limits
+pub mod WellConfigured
