@@ -17,4 +17,7 @@ pub use scheduler::Core;
 pub use tables::{
     Action, AlarmRow, CounterRow, CounterRule, Name, Start, Tables, TaskRow, TaskRule,
 };
-pub use worked::preempted_stays_first;
+pub use worked::{
+    activation_is_lost, held_at_end_fails, ints_wrap, preempted_stays_first, released_gives_way,
+    set_event_wakes, stored_example,
+};

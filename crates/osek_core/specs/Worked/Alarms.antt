@@ -1,0 +1,30 @@
+-- An alarm that activates a task whose one activation is outstanding, and the services on it.
+use Rattle.std.specs.Prelude.{◌≡◌, pos, true, [], ◌∷◌, codes}
+use Rattle.osek_core.specs.declared.call.Call.TheVariants.{CancelAlarm}
+use Rattle.osek_core.specs.declared.moves.Move.TheVariants.{Tick}
+use Rattle.osek_core.specs.declared.tables.Action.TheVariants.{Activate}
+use Rattle.osek_core.specs.Bytecode.World.{Const4, Pop, Return}
+use Rattle.osek_core.specs.Bytecode.Application.{Application, Whole, SetRel}
+use Rattle.osek_core.specs.Worked.Application.{Bound, calls, task_row, each_tick, application, lines, runs}
+
+abbrev pub cancel : Bound
+cancel = record { name = codes "cancel"; takes = 0; service = Whole (CancelAlarm 0) }
+
+abbrev pub set_again : Bound
+set_again = record { name = codes "set"; takes = 2; service = SetRel 0 }
+
+abbrev pub alarmed : Application
+alarmed =
+    application (cancel ∷ set_again ∷ [])
+    (record {
+      name = codes "x";
+      row = task_row (codes "x") 1 true [] [];
+      code = calls cancel ∷ Pop ∷ calls cancel ∷ Pop ∷ Const4 (pos 0) ∷ Const4 (pos 0) ∷ calls set_again ∷ Pop ∷ Return ∷ [];
+    } ∷ [])
+    (each_tick (codes "al") (Activate 0) ∷ []) [] []
+
+-- the activation at the tick is lost
+abbrev pub ActivationIsLost : Type 0
+ActivationIsLost =
+    lines alarmed (Tick 0 ∷ runs 10)
+    ≡ codes "lost al" ∷ codes "x CancelAlarm al 0" ∷ codes "x CancelAlarm al 5" ∷ codes "x SetRelAlarm al 0 0 8" ∷ codes "x TerminateTask 0" ∷ []
