@@ -144,7 +144,7 @@ impl Core {
         }
     }
 
-    /// The running task. Right after a dispatch there is none only where no job is ready.
+    /// The running task, if there is one.
     pub fn running(&self) -> Option<u32>
         ensures { result ≡ running self.now.scheduler }
     {
@@ -270,3 +270,6 @@ fn higher_job(first: Option<Job>, job: Job) -> Job
         _ => job,
     }
 }
+
+#[cfg(test)]
+mod tests;
