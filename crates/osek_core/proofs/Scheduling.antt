@@ -1,5 +1,5 @@
 -- What the lists that a `Core` keeps stand for, and that they stay sound.
-use Rattle.std.proofs.Common.{◌≡◌, ◌≢◌, ℕ, zero, suc, ◌+◌, ◌-◌, ◌<◌, ◌≤◌, Bool, true, false, nat_eq, nat_lt, List, [], ◌∷◌, ◌++◌, map, length, get_or, take, drop, set, Option, Some, None, inl, inr, refl, sym, ap, ◌∙◌, subst, arith, slice_get, All, sum_by, length-append, length-set, get_or-set_same, get_or-set_other, replicate, position, unwrap_or}
+use Rattle.std.proofs.Common.{◌⊎◌, option_map, ◌≡◌, ◌≢◌, ℕ, zero, suc, ◌+◌, ◌-◌, ◌<◌, ◌≤◌, Bool, true, false, nat_eq, nat_lt, List, [], ◌∷◌, ◌++◌, map, length, get_or, take, drop, set, Option, Some, None, inl, inr, refl, sym, ap, ◌∙◌, subst, arith, slice_get, All, sum_by, length-append, length-set, get_or-set_same, get_or-set_other, replicate, position, unwrap_or}
 use Rattle.std.specs.List.{range_with_len, list_any, position_from}
 use Rattle.std.proofs.lemmas.Iterator.Adapters.{position_from-zero}
 use Rattle.std.proofs.lemmas.List.FromFn.{get_or-map-range_with_len}
@@ -17,8 +17,9 @@ use Rattle.osek_core.specs.Tables.Limits.{IsTaskRule}
 use Rattle.osek_core.specs.Core.Queue.{queue, resources_of, top_job, without_first, with_top_running}
 use Rattle.osek_core.specs.Core.Kept.{IsSound, IsJob, scheduled, scheduler_of, priority_of}
 use Rattle.osek_core.specs.Kernel.Rules.{no_task}
-use Rattle.osek_core.specs.Kernel.Scheduler.{Scheduler, idle, is_running, caller, set_state}
+use Rattle.osek_core.specs.Kernel.Scheduler.{Scheduler, idle, is_running, running, caller, set_state}
 use Rattle.osek_core.specs.Kernel.State.{priorities, first_scheduler}
+use Rattle.osek_core.specs.Kernel.Invariant.{RunsFirst}
 use Rattle.osek_core.specs.Kernel.Dispatch.{run_first, dispatch}
 use Rattle.osek_core.specs.Kernel.TaskServices.{activate, activated, activate_task, end_job, terminated, terminate_task, holds_resource}
 use Rattle.osek_core.proofs.Queues.{queues-push, queues-without, queue-without_other, queue-push, jobs-at, first_job-queues, top_is_first, top_job-All, queue-other}
@@ -63,6 +64,16 @@ set_here controls task control lt = get_or-set_same controls task control idle l
 set_there : (controls : List TaskControl) (task k : ℕ) (control : TaskControl) → k ≢ task → get_or (set controls task control) k idle ≡ get_or controls k idle
 set_there controls task k control ne = get_or-set_other controls task k control idle ne
 
+-- who runs after a task's block was set: that task, or one that ran before
+running-after : (controls : List TaskControl) (task k : ℕ) (control : TaskControl) → task < length controls → (get_or (set controls task control) k idle).state ≡ Running →
+    ((k ≡ task) × (control.state ≡ Running)) ⊎ ((k ≢ task) × ((get_or controls k idle).state ≡ Running))
+running-after controls task k control lt run =
+    elim (eqb_tells k task) [
+      | inl e ↦ let P : ℕ → Type 0 = λ n. (get_or (set controls task control) n idle).state ≡ Running in
+          inl (e.1, rw (set_here controls task control lt) at (subst P e.1 run))
+      | inr ne ↦ inr (ne.1, rw (set_there controls task k control ne.1) at run)
+    ]
+
 -- the lists stay sound where one task's block changes and the jobs with it
 after-sound : (rules : List TaskRule) (controls : List TaskControl) (jobs jobs' : List Job) (room room' : ℕ) (task : ℕ) (control : TaskControl) →
     IsSound rules controls jobs room → task < length controls → control.activations ≤ 15 → room ≤ room' →
@@ -70,8 +81,9 @@ after-sound : (rules : List TaskRule) (controls : List TaskControl) (jobs jobs' 
     All (IsJob rules) jobs' →
     (control.state ≡ Running → slice_get (queue jobs' (priority_of rules task)) 0 ≡ Some task) →
     ((k : ℕ) → k ≢ task → (get_or controls k idle).state ≡ Running → slice_get (queue jobs' (priority_of rules k)) 0 ≡ Some k) →
+    (control.state ≡ Running → (k : ℕ) → k ≢ task → (get_or controls k idle).state ≡ Running → ⊥) →
     IsSound rules (set controls task control) jobs' room'
-after-sound rules controls jobs jobs' room room' task control s lt few more fit listed own others =
+after-sound rules controls jobs jobs' room room' task control s lt few more fit listed own others only =
     record {
       each = length-set controls task control ∙ s.each;
       few = s.few;
@@ -80,10 +92,13 @@ after-sound rules controls jobs jobs' room room' task control s lt few more fit 
       counted = omega (arith, fit, sum_by-set (λ c. c.activations) controls task control idle lt);
       within = All-set (λ c. c.activations ≤ 15) controls task control few s.within;
       listed = listed;
-      first = λ k run. elim (eqb_tells k task) [
-        | inl e ↦ let P : ℕ → Type 0 = λ n. (get_or (set controls task control) n idle).state ≡ Running in
-            subst (λ n. slice_get (queue jobs' (priority_of rules n)) 0 ≡ Some n) (sym e.1) (own (rw (set_here controls task control lt) at (subst P e.1 run)))
-        | inr ne ↦ others k ne.1 (rw (set_there controls task k control ne.1) at run)
+      first = λ k run. elim (running-after controls task k control lt run) [
+        | inl h ↦ subst (λ n. slice_get (queue jobs' (priority_of rules n)) 0 ≡ Some n) (sym h.0) (own h.1)
+        | inr h ↦ others k h.0 h.1
+      ];
+      alone = λ a b ra rb. elim (running-after controls task a control lt ra) [
+        | inl h ↦ elim (running-after controls task b control lt rb) [ inl k ↦ h.0 ∙ sym k.0 | inr k ↦ absurd (only h.1 b k.0 k.1) ]
+        | inr h ↦ elim (running-after controls task b control lt rb) [ inl k ↦ absurd (only k.1 a h.0 h.1) | inr k ↦ s.alone a b h.1 k.1 ]
       ];
     }
 
@@ -91,10 +106,11 @@ after-sound rules controls jobs jobs' room room' task control s lt few more fit 
 pub set-sound : (rules : List TaskRule) (controls : List TaskControl) (jobs : List Job) (room : ℕ) (task : ℕ) (state : TaskState) →
     IsSound rules controls jobs room → task < length controls →
     (state ≡ Running → slice_get (queue jobs (priority_of rules task)) 0 ≡ Some task) →
+    (state ≡ Running → (k : ℕ) → k ≢ task → (get_or controls k idle).state ≡ Running → ⊥) →
     IsSound rules (set controls task (record (get_or controls task idle) { state = state })) jobs room
-set-sound rules controls jobs room task state s lt first =
+set-sound rules controls jobs room task state s lt first only =
     after-sound rules controls jobs jobs room room task (record (get_or controls task idle) { state = state }) s lt
-    (s.within task idle lt) (omega arith) (omega (arith, s.counted)) s.listed first (λ k ne run. s.first k run)
+    (s.within task idle lt) (omega arith) (omega (arith, s.counted)) s.listed first (λ k ne run. s.first k run) only
 
 activated-running : (control : TaskControl) → (activated control).state ≡ Running → control.state ≡ Running
 activated-running control run = by control.state refl
@@ -134,6 +150,7 @@ activate-sound rules controls jobs room room' task s more lt few =
     (All-append (IsJob rules) jobs (job ∷ []) s.listed (λ k d l. one_job k d l is_job))
     (λ run. kept task (activated-running control run))
     (λ k ne run. kept k run)
+    (λ run k ne other. ne (s.alone k task other (activated-running control run)))
   where
     one_job : (k : ℕ) (d : Job) → k < 1 → IsJob rules (job_of rules task) → IsJob rules (get_or (job_of rules task ∷ []) k d)
     one_job zero d l h = h
@@ -181,21 +198,22 @@ terminate-sound rules controls jobs room task s lt run =
       | inl e ↦ let mine = s.first k r in let same : Some k ≡ Some task = sym mine ∙ ap (λ q. slice_get (queue jobs q) 0) e.1 ∙ head in absurd (ne cc)
       | inr other ↦ rw (queue-without_other jobs p (priority_of rules k) other.1) (s.first k r)
     ])
+    (λ r. absurd (terminated-rests control r))
 
 pub jobs_below : (rules : List TaskRule) (controls : List TaskControl) (jobs : List Job) (room : ℕ) → IsSound rules controls jobs room → All (λ job. job.priority < priorities) jobs
 jobs_below rules controls jobs room s k d l =
     let job = s.listed k d l in let below = priority_below rules (get_or jobs k d).task s.lawful job.task in omega (arith, job.priority, below)
 
 pub run_first-sound : (rules : List TaskRule) (controls : List TaskControl) (jobs : List Job) (room : ℕ) →
-    IsSound rules controls jobs room → IsSound rules (with_top_running controls jobs) jobs room
-run_first-sound rules controls jobs room s = by_top (top_job jobs) refl
+    ((k : ℕ) → (get_or controls k idle).state ≡ Running → ⊥) → IsSound rules controls jobs room → IsSound rules (with_top_running controls jobs) jobs room
+run_first-sound rules controls jobs room rest s = by_top (top_job jobs) refl
   where
     by_top : (top : Option Job) → top_job jobs ≡ top → IsSound rules (with_top_running controls jobs) jobs room
     by_top None e = rw e s
     by_top (Some top) e =
         let job = top_job-All (IsJob rules) jobs top s.listed e in
         let is_top = top_is_first jobs top e in
-        rw e (set-sound rules controls jobs room top.task Running s (omega (arith, job.task, s.each)) (λ r. subst (λ p. slice_get (queue jobs p) 0 ≡ Some top.task) job.priority is_top.first))
+        rw e (set-sound rules controls jobs room top.task Running s (omega (arith, job.task, s.each)) (λ r. subst (λ p. slice_get (queue jobs p) 0 ≡ Some top.task) job.priority is_top.first) (λ r k ne other. rest k other))
 
 -- there is room for one job more of a task that is below its limit
 pub room-left : (rules : List TaskRule) (controls : List TaskControl) (jobs : List Job) (room : ℕ) (task : ℕ) →
@@ -366,3 +384,72 @@ pub dispatch-keeps : (rules : List TaskRule) (ceilings : List ℕ) (controls : L
     position is_running controls ≡ Some task → (get_or rules task no_task).preemptable ≡ false →
     scheduler_of controls jobs holdings ≡ dispatch (record { tasks = rules; ceilings = ceilings }) (scheduler_of controls jobs holdings)
 dispatch-keeps rules ceilings controls jobs holdings task e p = rw (e, p) refl
+
+-- no task runs where none is found
+none-from : (n : ℕ) (controls : List TaskControl) → position_from is_running n controls ≡ None → (k : ℕ) → (get_or controls k idle).state ≡ Running → ⊥
+none-from n [] e k run = cc
+none-from n (control ∷ controls) e k run = by k (is_running control) refl run (λ j. none-from (n + 1) controls)
+  where
+    found : (state : TaskState) → state ≡ Running → control.state ≡ state → is_running control ≡ true
+    found state e f = rw (f ∙ e) refl
+
+    by : (j : ℕ) (t : Bool) → is_running control ≡ t → (get_or (control ∷ controls) j idle).state ≡ Running → (ℕ → position_from is_running (n + 1) controls ≡ None → (i : ℕ) → (get_or controls i idle).state ≡ Running → ⊥) → ⊥
+    by j true t r more = let h = rw t at e in cc
+    by zero false t r more = let h = found control.state r refl in cc
+    by (suc j) false t r more = more 0 (rw t at e) j r
+
+pub none-runs : (controls : List TaskControl) → position is_running controls ≡ None → (k : ℕ) → (get_or controls k idle).state ≡ Running → ⊥
+none-runs controls e = none-from 0 controls (sym (position_from-zero is_running controls) ∙ e)
+
+-- a task that is made ready runs no more, and no other one does
+pub none-after : (rules : List TaskRule) (controls : List TaskControl) (jobs : List Job) (room : ℕ) (task : ℕ) → IsSound rules controls jobs room →
+    task < length controls → (get_or controls task idle).state ≡ Running →
+    (k : ℕ) → (get_or (set controls task (record (get_or controls task idle) { state = Ready })) k idle).state ≡ Running → ⊥
+none-after rules controls jobs room task s lt run k r =
+    elim (running-after controls task k (record (get_or controls task idle) { state = Ready }) lt r) [
+      | inl h ↦ let e = h.1 in cc
+      | inr h ↦ h.0 (s.alone k task h.1 run)
+    ]
+
+position-none : (controls : List TaskControl) → ((k : ℕ) → (get_or controls k idle).state ≡ Running → ⊥) → position is_running controls ≡ None
+position-none controls rest = by (position is_running controls) refl
+  where
+    by : (o : Option ℕ) → position is_running controls ≡ o → position is_running controls ≡ None
+    by None e = e
+    by (Some task) e = absurd (rest task (running-at controls task e).1)
+
+-- where nobody runs, the one that is set running is found
+running-found : (controls : List TaskControl) (task : ℕ) (control : TaskControl) → control.state ≡ Running → task < length controls → ((k : ℕ) → (get_or controls k idle).state ≡ Running → ⊥) →
+    position is_running (set controls task control) ≡ Some task
+running-found controls task control run lt rest = by (position is_running (set controls task control)) refl
+  where
+    by : (o : Option ℕ) → position is_running (set controls task control) ≡ o → position is_running (set controls task control) ≡ Some task
+    by None e = absurd (none-runs (set controls task control) e task (rw (set_here controls task control lt) run))
+    by (Some other) e = elim (running-after controls task other control lt (running-at (set controls task control) other e).1) [
+      | inl h ↦ e ∙ ap Some h.0
+      | inr h ↦ absurd (rest other h.1)
+    ]
+
+-- the first job of all runs, where nobody ran
+pub run_first-first : (rules : List TaskRule) (ceilings : List ℕ) (controls : List TaskControl) (jobs : List Job) (holdings : List Holding) (room : ℕ) →
+    ((k : ℕ) → (get_or controls k idle).state ≡ Running → ⊥) → IsSound rules controls jobs room →
+    let s = scheduler_of (with_top_running controls jobs) jobs holdings in RunsFirst (record { tasks = rules; ceilings = ceilings }) s (running s)
+run_first-first rules ceilings controls jobs holdings room rest s = by_top (top_job jobs) refl
+  where
+    below : All (λ job. job.priority < priorities) jobs
+    below = jobs_below rules controls jobs room s
+
+    by_top : (top : Option Job) → top_job jobs ≡ top → let s = scheduler_of (with_top_running controls jobs) jobs holdings in RunsFirst (record { tasks = rules; ceilings = ceilings }) s (running s)
+    by_top None e = rw (e, position-none controls rest) (first_job-queues jobs below ∙ ap (option_map (λ job. job.task)) e)
+    by_top (Some top) e =
+        let job = top_job-All (IsJob rules) jobs top s.listed e in
+        let there : top.task < length controls = omega (arith, job.task, s.each) in
+        let found = running-found controls top.task (record (get_or controls top.task idle) { state = Running }) refl there rest in
+        rw (e, found) (inl (first_job-queues jobs below ∙ ap (option_map (λ job. job.task)) e))
+
+-- the same of blocks that are equal
+pub first-at : (rules : List TaskRule) (ceilings : List ℕ) (controls controls' : List TaskControl) (jobs : List Job) (holdings : List Holding) → controls' ≡ controls →
+    RunsFirst (record { tasks = rules; ceilings = ceilings }) (scheduler_of controls jobs holdings) (running (scheduler_of controls jobs holdings)) →
+    RunsFirst (record { tasks = rules; ceilings = ceilings }) (scheduler_of controls' jobs holdings) (running (scheduler_of controls' jobs holdings))
+first-at rules ceilings controls controls' jobs holdings e h =
+    subst (λ cs. RunsFirst (record { tasks = rules; ceilings = ceilings }) (scheduler_of cs jobs holdings) (running (scheduler_of cs jobs holdings))) (sym e) h

@@ -4,6 +4,7 @@ ghost use Rattle.std.specs.List.{list_any};
 ghost use Rattle.osek_core.specs.Core.Queue.{higher, top_job, resources_of, without_first, with_top_running};
 ghost use Rattle.osek_core.specs.Tables.Limits.{IsTaskRule};
 ghost use Rattle.osek_core.specs.Kernel.Dispatch.{dispatch};
+ghost use Rattle.osek_core.specs.Kernel.Invariant.{RunsFirst};
 ghost use Rattle.osek_core.specs.Kernel.Scheduler.{running, caller, is_running, idle};
 ghost use Rattle.osek_core.specs.Kernel.State.{first_scheduler};
 ghost use Rattle.osek_core.specs.Kernel.TaskServices.{activate_task, terminate_task, activated, terminated};
@@ -131,7 +132,8 @@ impl Core {
 
     /// Lets the first job of the highest priority run, unless a task that can't be preempted runs.
     pub fn dispatch(&mut self)
-        ensures { self.new ≡ record self.old { scheduler = dispatch self.old.rules self.old.scheduler } }
+        ensures state { self.new ≡ record self.old { scheduler = dispatch self.old.rules self.old.scheduler } }
+        ensures first { RunsFirst self.new.rules self.new.scheduler (running self.new.scheduler) }
     {
         match running_task(&self.controls) {
             None => run_first_job(&mut self.controls, &self.jobs),

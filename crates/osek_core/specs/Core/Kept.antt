@@ -40,3 +40,5 @@ pub record IsSound (rules : List TaskRule) (controls : List TaskControl) (jobs :
   pub listed : All (IsJob rules) jobs
   -- a running job is the first of its priority
   pub first : (task : ℕ) → (slice_index_or controls task idle).state ≡ Running → slice_get (queue jobs (priority_of rules task)) 0 ≡ Some task
+  -- at most one task runs
+  pub alone : (a b : ℕ) → (slice_index_or controls a idle).state ≡ Running → (slice_index_or controls b idle).state ≡ Running → a ≡ b
