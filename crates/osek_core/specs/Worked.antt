@@ -6,3 +6,5 @@ pub mod Resources
 pub mod Waiting
 pub mod Alarms
 pub mod Arithmetic
+pub mod Scheduling
+pub mod Initialisers

@@ -18,6 +18,7 @@ pub use tables::{
     Action, AlarmRow, CounterRow, CounterRule, Name, Start, Tables, TaskRow, TaskRule,
 };
 pub use worked::{
-    activation_is_lost, held_at_end_fails, ints_wrap, preempted_stays_first, released_gives_way,
-    set_event_wakes, stored_example,
+    activation_is_lost, held_at_end_fails, initialisers_run_first, ints_wrap,
+    preempted_stays_first, reads_tell, released_gives_way, schedule_gives_way, set_event_wakes,
+    stored_example,
 };

@@ -1,9 +1,11 @@
 //! Worked examples of the definitions: each function's contract is what they show of a small application, and its
 //! proof is a computation.
-ghost use Rattle.osek_core.specs.Worked.Alarms.{ActivationIsLost};
+ghost use Rattle.osek_core.specs.Worked.Alarms.{ActivationIsLost, ReadsTell};
 ghost use Rattle.osek_core.specs.Worked.Arithmetic.{IntsWrap};
+ghost use Rattle.osek_core.specs.Worked.Initialisers.{InitialisersRunFirst};
 ghost use Rattle.osek_core.specs.Worked.Preemption.{PreemptedStaysFirst};
 ghost use Rattle.osek_core.specs.Worked.Resources.{HeldAtEndFails, ReleasedGivesWay};
+ghost use Rattle.osek_core.specs.Worked.Scheduling.{ScheduleGivesWay};
 ghost use Rattle.osek_core.specs.Worked.Stored.{StoredEvents, StoredLines};
 ghost use Rattle.osek_core.specs.Worked.Waiting.{SetEventWakes};
 
@@ -42,4 +44,19 @@ pub fn activation_is_lost()
 /// Ints wrap in a sum, a difference and a product.
 pub fn ints_wrap()
     ensures { IntsWrap }
+{}
+
+/// GetAlarm and GetEvent answer a number, or a status below 0.
+pub fn reads_tell()
+    ensures { ReadsTell }
+{}
+
+/// A task that isn't preempted gives way at Schedule, and hands on by ChainTask.
+pub fn schedule_gives_way()
+    ensures { ScheduleGivesWay }
+{}
+
+/// The initialisers run before the kernel's start, and ticks until then do nothing.
+pub fn initialisers_run_first()
+    ensures { InitialisersRunFirst }
 {}

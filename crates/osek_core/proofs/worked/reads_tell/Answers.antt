@@ -1,0 +1,7 @@
+use Rattle.std.proofs.Common.{refl}
+use Rattle.std.specs.Fmt.{digits}
+use Rattle.osek_core.proofs.worked.reads_tell.Goals as goal
+
+pub returns : goal.returns
+unfolding digits
+returns c = refl
