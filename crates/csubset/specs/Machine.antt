@@ -8,3 +8,4 @@ pub mod Services
 pub mod State
 pub mod Statement
 pub mod Step
+pub mod Trace
