@@ -1,1 +1,3 @@
 pub mod ExpressionText
+pub mod Evaluation
+pub mod OneMove

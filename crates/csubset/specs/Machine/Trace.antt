@@ -12,7 +12,7 @@ use Rattle.csubset.specs.declared.map.Map.{Map}
 use Rattle.csubset.specs.declared.program.CProgram.{CProgram}
 use Rattle.csubset.specs.Machine.Application.{CApplication}
 use Rattle.csubset.specs.Machine.State.{State, actor_of, set_actor, first_state}
-use Rattle.csubset.specs.Machine.Step.{step}
+use Rattle.csubset.specs.Machine.Step.{Stepped, step}
 
 -- the state after a move, and what the move shows
 pub record Moved : Type 0 where
@@ -55,19 +55,20 @@ serve_kept app s =
       events = served.events;
     }
 
--- one step of an actor
-abbrev pub act : CApplication → State → Who → Moved
-act app s who =
-    let stepped = step app who (actor_of s who) s.shared in
-    record { state = record (set_actor s who stepped.actor) { shared = stepped.shared }; events = stepped.events }
+-- the state after a step of an actor, and before kept ticks are served
+abbrev pub after_step : State → Who → Stepped → State
+after_step s who stepped = record (set_actor s who stepped.actor) { shared = stepped.shared }
+
+-- a step, and behind it the ticks that it leaves to be served
+abbrev pub moved_by : CApplication → State → Who → Stepped → Moved
+moved_by app s who stepped =
+    let served = serve_kept app (after_step s who stepped) in
+    record { state = served.state; events = stepped.events ++ served.events }
 
 -- one step of whoever acts, and nothing where nobody does
 abbrev pub run : CApplication → State → Option Who → Moved
 run app s None = record { state = s; events = [] }
-run app s (Some who) =
-    let acted = act app s who in
-    let served = serve_kept app acted.state in
-    record { state = served.state; events = acted.events ++ served.events }
+run app s (Some who) = moved_by app s who (step app who (actor_of s who) s.shared)
 
 -- a tick is kept, or is the system's tick with its lost actions
 abbrev pub tick_move : CApplication → State → ℕ → Moved
