@@ -1,5 +1,6 @@
--- The definitions that contracts cite: the text of a program, what its run shows, and the moves that it stands for.
+-- The definitions that contracts cite: a program's text and form, what its run shows, and its image in the bytecode.
 pub mod Text
 pub mod Machine
+pub mod Form
 pub mod Image
 pub mod Worked
