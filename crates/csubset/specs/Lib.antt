@@ -3,4 +3,5 @@ pub mod Text
 pub mod Machine
 pub mod Form
 pub mod Image
+pub mod Written
 pub mod Worked
