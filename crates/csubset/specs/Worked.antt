@@ -7,3 +7,5 @@ pub mod Samples
 pub mod LongArithmetic
 pub mod LongBits
 pub mod IntOperators
+pub mod Form
+pub mod Calls

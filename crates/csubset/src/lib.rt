@@ -14,6 +14,7 @@ pub use map::{FailRow, FunctionKind, FunctionRow, Map, RegionRow};
 pub use program::{CFunction, CProgram, CRegion, CTask};
 pub use statement::{CService, Form, Stmt};
 pub use worked::{
-    conversions, fail_shuts_down, int_operators, kept_tick_is_served, loads_and_stores,
-    long_arithmetic, long_bits, meaningless_is_stuck, stored_example,
+    calls_and_services, conversions, fail_shuts_down, form_faults, int_operators,
+    kept_tick_is_served, loads_and_stores, long_arithmetic, long_bits, meaningless_is_stuck,
+    stored_example,
 };

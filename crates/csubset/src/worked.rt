@@ -1,5 +1,7 @@
 //! Worked examples of the definitions: each function's contract is what they give of a small program, and its proof is
 //! a computation.
+ghost use Rattle.csubset.specs.Worked.Calls.{CallsHold};
+ghost use Rattle.csubset.specs.Worked.Form.{FallsFaults, FormFaults, SectionFaults};
 ghost use Rattle.csubset.specs.Worked.IntOperators.{IntOperators};
 ghost use Rattle.csubset.specs.Worked.LongArithmetic.{LongArithmetic};
 ghost use Rattle.csubset.specs.Worked.LongBits.{LongBits};
@@ -51,4 +53,16 @@ pub fn long_bits()
 /// The operators on the low 32 bits.
 pub fn int_operators()
     ensures { IntOperators }
+{}
+
+/// Initialisers, calls with parameters, and services by names and numbers.
+pub fn calls_and_services()
+    ensures { CallsHold }
+{}
+
+/// The faults of a program's form: labels, words, callees, regions, a cycle of calls, sections and falling through.
+pub fn form_faults()
+    ensures each { FormFaults }
+    ensures sections { SectionFaults }
+    ensures falls { FallsFaults }
 {}
