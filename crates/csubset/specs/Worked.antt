@@ -9,3 +9,4 @@ pub mod LongBits
 pub mod IntOperators
 pub mod Form
 pub mod Calls
+pub mod Advance

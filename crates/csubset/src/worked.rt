@@ -1,5 +1,6 @@
 //! Worked examples of the definitions: each function's contract is what they give of a small program, and its proof is
 //! a computation.
+ghost use Rattle.csubset.specs.Worked.Advance.{AdvanceHolds};
 ghost use Rattle.csubset.specs.Worked.Calls.{CallsHold};
 ghost use Rattle.csubset.specs.Worked.Form.{FallsFaults, FormFaults, SectionFaults};
 ghost use Rattle.csubset.specs.Worked.IntOperators.{IntOperators};
@@ -65,4 +66,9 @@ pub fn form_faults()
     ensures each { FormFaults }
     ensures sections { SectionFaults }
     ensures falls { FallsFaults }
+{}
+
+/// A section: the bytes that its steps touch, the steps that weigh nothing, and the bound on them.
+pub fn section_advances()
+    ensures { AdvanceHolds }
 {}
