@@ -1,5 +1,6 @@
 -- When a program is in form: the rules that go beyond the shape of its lines. A fault has a kind, and is shown at a
 -- function's statement.
+pub mod Shape
 pub mod Jump
 pub mod Label
 pub mod Word

@@ -8,3 +8,4 @@ pub mod Calls
 pub mod Regions
 pub mod Touched
 pub mod Isolation
+pub mod Promise
