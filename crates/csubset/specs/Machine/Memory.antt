@@ -4,11 +4,12 @@ use Rattle.std.specs.Int.{bytes_low_first, bytes_high_first}
 use Rattle.csubset.specs.declared.program.CRegion.{CRegion}
 use Rattle.osek_core.specs.Bytecode.Trace.{written}
 
--- whether the high byte of a number comes first
+-- the low bytes of a number, so many; where `big` is true the highest of them comes first
 abbrev pub bytes_of : Bool → ℕ → ℕ → List ℕ
 bytes_of true width value = bytes_high_first width value
 bytes_of false width value = bytes_low_first 0 width value
 
+-- the number of some bytes of which the lowest comes first
 abbrev pub number_low_first : List ℕ → ℕ
 number_low_first [] = 0
 number_low_first (b ∷ more) = b + 256 * number_low_first more

@@ -12,7 +12,7 @@ use Rattle.csubset.specs.declared.map.Map.{Map}
 use Rattle.csubset.specs.Machine.Expression.{atom_value, atom_values, evaluate}
 use Rattle.csubset.specs.Machine.Memory.{load, store}
 use Rattle.csubset.specs.Machine.Application.{CApplication, label_place}
-use Rattle.csubset.specs.Machine.Services.{call_of, both}
+use Rattle.csubset.specs.Machine.Services.{call_of}
 use Rattle.csubset.specs.Machine.State.{Shared}
 
 pub data Outcome : Type 0 where
@@ -63,14 +63,29 @@ case_label cases other value = chosen (find (λ c. nat_eq c.0 value) cases)
     chosen None = other
     chosen (Some c) = c.1
 
+-- what two values make, where both are there
+abbrev pub with_both : (ℕ → ℕ → Outcome) → Option ℕ → Option ℕ → Outcome
+with_both outcome a b = defined (λ x. defined (outcome x) b) a
+
+-- the number in a region's cell goes into a word
+abbrev pub region_load : CApplication → Shared → List ℕ → ℕ → ℕ → ℕ → ℕ → Outcome
+region_load app s words to width region at =
+    assign words to (option_and_then (λ bytes. load app.map.big bytes width at) (slice_get s.regions region))
+
+-- the low bytes of the value go into a region's cell
+abbrev pub region_store : CApplication → Shared → ℕ → ℕ → ℕ → ℕ → Outcome
+region_store app s width region at value =
+    defined (Store region) (option_and_then (λ bytes. store app.map.big bytes width at value) (slice_get s.regions region))
+
+abbrev pub device_load : CApplication → Shared → List ℕ → ℕ → ℕ → ℕ → Outcome
+device_load app s words to width at =
+    defined (λ value. defined (Read at width value) (set_word words to value)) (load app.map.big s.devices width at)
+
 -- the low bytes of the value go into a device cell; the event shows them
 abbrev pub device_store : CApplication → Shared → ℕ → ℕ → ℕ → Outcome
 device_store app s width at value =
     defined (λ devices. defined (λ shown. Write at width shown devices) (load app.map.big devices width at))
     (store app.map.big s.devices width at value)
-
-abbrev pub device_load : List ℕ → ℕ → ℕ → ℕ → ℕ → Outcome
-device_load words to width at value = defined (Read at width value) (set_word words to value)
 
 -- FAIL with this number: 0 is a task's end with a resource held, and n + 1 is row n of the map
 abbrev pub failure : Map → ℕ → Outcome
@@ -80,16 +95,12 @@ failure map (suc n) = defined (λ row. Fails row.kind (Some row.place)) (slice_g
 abbrev pub execute : CApplication → CFunction → Shared → List ℕ → Form → Outcome
 execute app function s words (form.Assign to value) = assign words to (evaluate words value)
 execute app function s words (form.Load to width region at) =
-    assign words to
-    (option_and_then (λ bytes. option_and_then (load app.map.big bytes width) (atom_value words at)) (slice_get s.regions region))
+    defined (region_load app s words to width region) (atom_value words at)
 execute app function s words (form.Store width region at value) =
-    defined (Store region)
-    (option_and_then (λ bytes. option_and_then (λ x. x) (both (store app.map.big bytes width) (atom_value words at) (atom_value words value)))
-    (slice_get s.regions region))
-execute app function s words (form.DeviceLoad to width at) =
-    defined (λ n. defined (device_load words to width n) (load app.map.big s.devices width n)) (atom_value words at)
+    with_both (region_store app s width region) (atom_value words at) (atom_value words value)
+execute app function s words (form.DeviceLoad to width at) = defined (device_load app s words to width) (atom_value words at)
 execute app function s words (form.DeviceStore width at value) =
-    defined (λ outcome. outcome) (both (device_store app s width) (atom_value words at) (atom_value words value))
+    with_both (device_store app s width) (atom_value words at) (atom_value words value)
 execute app function s words (form.Goto label) = jump function label
 execute app function s words (form.If test label) = defined (jump_if function words label) (evaluate words test)
 execute app function s words (form.Switch on cases other) =

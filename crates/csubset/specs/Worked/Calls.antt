@@ -65,13 +65,20 @@ signals = (
       ∷ form.Return (Number 0) ∷ [],
 )
 
+abbrev pub returns : ℕ × List Form
+returns = (0, form.Return (Number 0) ∷ [])
+
+abbrev pub initialiser : ℕ × List Form
+initialiser = (0, form.DeviceStore 1 (Number 0) (Number 5) ∷ form.Return (Number 0) ∷ [])
+
 pub record CallsHold : Type 0 where
   -- the parameters are set, the further word is 0, and the answer is stored at the return
   pub call : shown (caller ∷ writer ∷ []) [] (runs 6)
       ≡ DevWrite (Task 0) 0 2 258 ∷ DevWrite (Task 0) 2 1 0 ∷ DevWrite (Task 0) 3 1 7 ∷ []
   -- two initialisers, a tick that does nothing before the kernel's start, and then the task
-  pub start : shown ((0, form.Return (Number 0) ∷ []) ∷ (0, form.DeviceStore 1 (Number 0) (Number 5) ∷ form.Return (Number 0) ∷ []) ∷ []) (1 ∷ 1 ∷ []) (runs 2 ++ Tick 0 ∷ runs 4)
+  pub start : shown (returns ∷ initialiser ∷ []) (1 ∷ 1 ∷ []) (runs 2 ++ Tick 0 ∷ runs 4)
       ≡ DevWrite Start 0 1 5 ∷ DevWrite Start 0 1 5 ∷ Service (Task 0) TerminateTask (pos 0) ∷ []
   pub service_at_start : shown (signals ∷ []) (0 ∷ []) (runs 9) ≡ Stuck Start ∷ []
   pub services : shown (signals ∷ []) [] (runs 5)
-      ≡ Service (Task 0) (SetEvent 0 3) (pos 0) ∷ Service (Task 0) (ClearEvent 2) (pos 0) ∷ Service (Task 0) (SetRelAlarm 0 3 0) (pos 7) ∷ Service (Task 0) TerminateTask (pos 0) ∷ []
+      ≡ Service (Task 0) (SetEvent 0 3) (pos 0) ∷ Service (Task 0) (ClearEvent 2) (pos 0)
+      ∷ Service (Task 0) (SetRelAlarm 0 3 0) (pos 7) ∷ Service (Task 0) TerminateTask (pos 0) ∷ []

@@ -62,3 +62,7 @@ pub record HasCalls (function : CFunction) (sites : List (List ℕ)) (own_switch
   pub in_order : callees function ≡ flat_map (λ site. site) sites
   pub switches : count_by (λ statement. is_switch statement.form) function.statements ≡ own_switches + count_by has_several sites
   pub switched : All (IsSwitched function) (filter has_several (parted (call_places function) sites))
+
+-- a copier has one call statement, of its server's function
+abbrev pub CallsServer : CFunction → ℕ → Type 0
+CallsServer function server = callees function ≡ server ∷ []
