@@ -10,3 +10,4 @@ pub mod IntOperators
 pub mod Form
 pub mod Calls
 pub mod Advance
+pub mod Jumps

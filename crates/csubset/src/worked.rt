@@ -4,6 +4,7 @@ ghost use Rattle.csubset.specs.Worked.Advance.{AdvanceHolds};
 ghost use Rattle.csubset.specs.Worked.Calls.{CallsHold};
 ghost use Rattle.csubset.specs.Worked.Form.{FallsFaults, FormFaults, SectionFaults};
 ghost use Rattle.csubset.specs.Worked.IntOperators.{IntOperators};
+ghost use Rattle.csubset.specs.Worked.Jumps.{JumpsHold};
 ghost use Rattle.csubset.specs.Worked.LongArithmetic.{LongArithmetic};
 ghost use Rattle.csubset.specs.Worked.LongBits.{LongBits};
 ghost use Rattle.csubset.specs.Worked.Samples.{Conversions};
@@ -71,4 +72,9 @@ pub fn form_faults()
 /// A section: the bytes that its steps touch, the steps that weigh nothing, and the bound on them.
 pub fn section_advances()
     ensures { AdvanceHolds }
+{}
+
+/// A switch, a goto, and an if.
+pub fn jumps_hold()
+    ensures { JumpsHold }
 {}
