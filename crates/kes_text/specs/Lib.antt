@@ -1,5 +1,6 @@
 pub mod Complaints
 pub mod KindName
 pub mod Lines
+pub mod Numbered
 pub mod Reading
 pub mod Shown
