@@ -1,7 +1,0 @@
-use Rattle.keso_cli.proofs.c_text.service.append_service.Goals as goal
-
-pub returns-in-SetRelAlarm : goal.returns-in-SetRelAlarm
-returns-in-SetRelAlarm c = rw c.in-SetRelAlarm.is c.append_alarm_start.ensures
-
-pub returns-in-SetAbsAlarm : goal.returns-in-SetAbsAlarm
-returns-in-SetAbsAlarm c = rw c.in-SetAbsAlarm.is c.append_alarm_start-in-SetAbsAlarm.ensures

@@ -1,6 +1,0 @@
-use Rattle.std.proofs.Common.{◌≡◌, ◌++◌, take, flat_map}
-use Rattle.csubset.specs.Text.Statements.{label_line}
-use Rattle.keso_cli.proofs.c_text.statement.append_label_lines.Given as goal
-
-abbrev pub invariant-loop-label : goal.invariant-loop-label
-invariant-loop-label l = l.out.items ≡ l.initial.out.items ++ flat_map label_line (take l.label-index l.labels)
