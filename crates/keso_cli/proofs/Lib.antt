@@ -1,0 +1,3 @@
+pub mod ConfigWords
+pub mod OneByOne
+pub mod Parameters

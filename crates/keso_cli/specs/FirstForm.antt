@@ -1,0 +1,11 @@
+pub mod Bytes
+pub mod Class
+pub mod Code
+pub mod Config
+pub mod Descriptors
+pub mod LineViews
+pub mod Lines
+pub mod Methods
+pub mod Names
+pub mod Pool
+pub mod Words

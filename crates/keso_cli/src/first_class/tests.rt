@@ -1,0 +1,291 @@
+//! What the definition says of class files that were written by hand.
+
+use super::*;
+use std::test::*;
+
+/// The class
+/// `class Main { static native int again(); static void run() { again(); } }`.
+const MAIN: [u8; 138] = [
+    0xca, 0xfe, 0xba, 0xbe, 0x00, 0x00, 0x00, 0x34, 0x00, 0x0c, 0x07, 0x00, 0x02, 0x01, 0x00, 0x04,
+    0x4d, 0x61, 0x69, 0x6e, 0x07, 0x00, 0x04, 0x01, 0x00, 0x10, 0x6a, 0x61, 0x76, 0x61, 0x2f, 0x6c,
+    0x61, 0x6e, 0x67, 0x2f, 0x4f, 0x62, 0x6a, 0x65, 0x63, 0x74, 0x01, 0x00, 0x05, 0x61, 0x67, 0x61,
+    0x69, 0x6e, 0x01, 0x00, 0x03, 0x28, 0x29, 0x49, 0x01, 0x00, 0x03, 0x72, 0x75, 0x6e, 0x01, 0x00,
+    0x03, 0x28, 0x29, 0x56, 0x01, 0x00, 0x04, 0x43, 0x6f, 0x64, 0x65, 0x0a, 0x00, 0x01, 0x00, 0x0b,
+    0x0c, 0x00, 0x05, 0x00, 0x06, 0x00, 0x21, 0x00, 0x01, 0x00, 0x03, 0x00, 0x00, 0x00, 0x00, 0x00,
+    0x02, 0x01, 0x09, 0x00, 0x05, 0x00, 0x06, 0x00, 0x00, 0x00, 0x09, 0x00, 0x07, 0x00, 0x08, 0x00,
+    0x01, 0x00, 0x09, 0x00, 0x00, 0x00, 0x11, 0x00, 0x01, 0x00, 0x00, 0x00, 0x00, 0x00, 0x05, 0xb8,
+    0x00, 0x0a, 0x57, 0xb1, 0x00, 0x00, 0x00, 0x00, 0x00, 0x00,
+];
+
+/// One byte changed, and still of the form.
+const LAWFUL: [(usize, u8, &str); 8] = [
+    (7, 50, "version 50"),
+    (7, 51, "version 51"),
+    (5, 3, "a minor version"),
+    (86, 0x11, "a final class"),
+    (106, 0x0a, "a private entry"),
+    (98, 0x0a, "a private native method"),
+    (120, 9, "a higher stack"),
+    (122, 5, "locals"),
+];
+
+/// One byte changed, and no longer of the form.
+const UNLAWFUL: [(usize, u8, &str); 49] = [
+    (0, 0xcb, "magic"),
+    (7, 49, "version 49"),
+    (7, 53, "version 53"),
+    (6, 1, "version 308"),
+    (9, 11, "an entry fewer"),
+    (9, 13, "an entry more"),
+    (10, 3, "tag 3"),
+    (12, 0, "the class's name is entry 0"),
+    (12, 1, "the class's name is a Class"),
+    (12, 12, "the class's name is behind the pool"),
+    (77, 2, "the class of the call is a Utf8"),
+    (77, 3, "a call of another class"),
+    (79, 10, "the name and type of the call is a Methodref"),
+    (82, 7, "a call of another name"),
+    (84, 8, "a call with another descriptor"),
+    (84, 5, "a descriptor that is none"),
+    (85, 0x02, "an interface"),
+    (88, 3, "the class is Object"),
+    (88, 2, "the class is a Utf8"),
+    (90, 1, "the superclass is the class"),
+    (92, 1, "an interface more"),
+    (94, 1, "a field"),
+    (96, 1, "one method"),
+    (96, 3, "three methods"),
+    (97, 0x00, "no native method"),
+    (98, 0x01, "a native method that isn't static"),
+    (98, 0x29, "a synchronized native method"),
+    (97, 0x05, "an abstract native method"),
+    (100, 12, "the native method's name is behind the pool"),
+    (102, 8, "a native method without a value"),
+    (105, 0x01, "two native methods"),
+    (106, 0x01, "an entry that isn't static"),
+    (106, 0x29, "a synchronized entry"),
+    (105, 0x04, "an abstract entry"),
+    (110, 6, "an entry with a value"),
+    (112, 0, "an entry without code"),
+    (112, 2, "an attribute more"),
+    (114, 7, "an attribute of another name"),
+    (118, 0x10, "an attribute's length too small"),
+    (118, 0x12, "an attribute's length too great"),
+    (120, 0, "a stack without room"),
+    (126, 0, "no code"),
+    (126, 6, "a longer code"),
+    (129, 11, "a call of a NameAndType"),
+    (130, 0x62, "fadd"),
+    (130, 0xb1, "a return in the middle"),
+    (131, 0x57, "no return at the end"),
+    (133, 1, "a handler"),
+    (137, 1, "an attribute of the class"),
+];
+
+const FIELD_DESCRIPTORS: [&str; 5] = ["I", "J", "[[[D", "La;", "[Ljava/lang/String;"];
+
+const METHOD_DESCRIPTORS: [&str; 4] = ["()V", "()I", "([[Ljava/lang/String;IJ)V", "(DLa/b;)[Lc;"];
+
+const NO_DESCRIPTORS: [&str; 17] = [
+    "", "V", "II", "[", "[V", "L;", "La", "La.b;", "L/a;", "La//b;", "La/;", "L[a;", "()", "(V)V",
+    "(I", "I)V", "()VV",
+];
+
+fn with_byte(at: usize, byte: u8) -> [u8; 138] {
+    let mut bytes = MAIN;
+    if at < 138 {
+        bytes[at] = byte;
+    }
+    bytes
+}
+
+#[test]
+fn example(rt: HostRuntime) -> Result<(), Fail> {
+    let class = read_class(rt.alloc(), &MAIN)?.ok_or("the form")?;
+    assert_eq!(rt; class.name.as_slice(), b"Main".as_slice());
+    assert_eq!(rt; class.native.as_slice(), b"again".as_slice());
+    assert_eq!(rt; class.entry.as_slice(), b"run".as_slice());
+    assert_eq!(rt; class.max_stack, 1);
+    assert_eq!(rt; class.max_locals, 0);
+    assert_eq!(rt;
+        class.code.as_slice(),
+        [Op::Invoke, Op::Pop, Op::Return].as_slice()
+    );
+    Ok(())
+}
+
+#[test]
+fn one_byte_changed(rt: HostRuntime) -> Result<(), Fail> {
+    for (at, byte, what) in LAWFUL {
+        assert!(rt;
+            read_class(rt.alloc(), &with_byte(at, byte))?.is_some(),
+            "{what}"
+        );
+    }
+    for (at, byte, what) in UNLAWFUL {
+        assert!(rt;
+            read_class(rt.alloc(), &with_byte(at, byte))?.is_none(),
+            "{what}"
+        );
+    }
+    Ok(())
+}
+
+#[test]
+fn cut_and_continued(rt: HostRuntime) -> Result<(), Fail> {
+    for length in 0..MAIN.len() {
+        assert!(rt;
+            read_class(rt.alloc(), &MAIN[..length])?.is_none(),
+            "{length} bytes"
+        );
+    }
+    let mut longer = MAIN.to_vec(rt.alloc())?;
+    longer.push(0)?;
+    assert!(rt; read_class(rt.alloc(), &longer)?.is_none());
+    Ok(())
+}
+
+/// The example with its methods in the other order.
+fn swapped_methods(alloc: Global) -> Result<Vec<u8>, NoMemory> {
+    let mut bytes = MAIN[..97].to_vec(alloc)?;
+    bytes.extend_from_slice(&MAIN[105..136])?;
+    bytes.extend_from_slice(&MAIN[97..105])?;
+    bytes.extend_from_slice(&MAIN[136..])?;
+    Ok(bytes)
+}
+
+/// The example with a text as entry 12, and an entry 13.
+fn with_entries(alloc: Global, text: &[u8], entry: &[u8]) -> Result<Vec<u8>, NoMemory> {
+    let mut bytes = MAIN[..9].to_vec(alloc)?;
+    bytes.extend_from_slice(&[14])?;
+    bytes.extend_from_slice(&MAIN[10..85])?;
+    bytes.extend_from_slice(&[1, (text.len() / 256 % 256) as u8, (text.len() % 256) as u8])?;
+    bytes.extend_from_slice(text)?;
+    bytes.extend_from_slice(entry)?;
+    bytes.extend_from_slice(&MAIN[85..])?;
+    Ok(bytes)
+}
+
+const NAME_AND_TYPE: [u8; 5] = [12, 0, 5, 0, 12];
+
+const METHODREF: [u8; 5] = [10, 0, 1, 0, 11];
+
+const CLASS: [u8; 3] = [7, 0, 12];
+
+#[test]
+fn methods_in_either_order(rt: HostRuntime) -> Result<(), Fail> {
+    let class = read_class(rt.alloc(), &swapped_methods(rt.alloc())?)?.ok_or("the form")?;
+    assert_eq!(rt; class.native.as_slice(), b"again".as_slice());
+    assert_eq!(rt; class.entry.as_slice(), b"run".as_slice());
+    Ok(())
+}
+
+fn takes_entries(alloc: Global, text: &[u8], entry: &[u8]) -> Result<bool, NoMemory> {
+    Ok(read_class(alloc, &with_entries(alloc, text, entry)?)?.is_some())
+}
+
+/// Whether the example with an entry of this name is of the form.
+fn takes_entry_name(alloc: Global, name: &str) -> Result<bool, NoMemory> {
+    let mut bytes = with_entries(alloc, name.as_bytes(), &CLASS)?;
+    // The entry's name is 30 bytes before the end.
+    let place = bytes.len().saturating_sub(30);
+    if place < bytes.len() {
+        bytes[place] = 12;
+    }
+    Ok(read_class(alloc, &bytes)?.is_some())
+}
+
+#[test]
+fn names_of_initialisers(rt: HostRuntime) -> Result<(), Fail> {
+    assert!(rt; takes_entry_name(rt.alloc(), "main")?);
+    assert!(rt; !takes_entry_name(rt.alloc(), "<init>")?);
+    assert!(rt; !takes_entry_name(rt.alloc(), "<clinit>")?);
+    Ok(())
+}
+
+#[test]
+fn unused_descriptors(rt: HostRuntime) -> Result<(), Fail> {
+    for text in FIELD_DESCRIPTORS {
+        assert!(rt;
+            takes_entries(rt.alloc(), text.as_bytes(), &NAME_AND_TYPE)?,
+            "{text}"
+        );
+    }
+    for text in METHOD_DESCRIPTORS {
+        assert!(rt;
+            takes_entries(rt.alloc(), text.as_bytes(), &NAME_AND_TYPE)?,
+            "{text}"
+        );
+    }
+    for text in NO_DESCRIPTORS {
+        assert!(rt;
+            !takes_entries(rt.alloc(), text.as_bytes(), &NAME_AND_TYPE)?,
+            "{text}"
+        );
+    }
+    Ok(())
+}
+
+#[test]
+fn unused_classes(rt: HostRuntime) -> Result<(), Fail> {
+    for (name, is_lawful) in [
+        ("any name", true),
+        ("[I", true),
+        ("[[La/b;", true),
+        ("[V", false),
+        ("[", false),
+    ] {
+        assert_eq!(rt;
+            takes_entries(rt.alloc(), name.as_bytes(), &CLASS)?,
+            is_lawful,
+            "{name}"
+        );
+    }
+    assert!(rt; takes_entries(rt.alloc(), b"I", &METHODREF)?);
+    Ok(())
+}
+
+fn repeated(
+    alloc: Global,
+    front: &str,
+    part: &str,
+    count: usize,
+    end: &str,
+) -> Result<Vec<u8>, NoMemory> {
+    let mut bytes = front.as_bytes().to_vec(alloc)?;
+    for _ in 0..count {
+        bytes.extend_from_slice(part.as_bytes())?;
+    }
+    bytes.extend_from_slice(end.as_bytes())?;
+    Ok(bytes)
+}
+
+#[test]
+fn limits_of_descriptors(rt: HostRuntime) -> Result<(), Fail> {
+    let cases = [
+        ("", "[", 255, "I", true),
+        ("", "[", 256, "I", false),
+        ("(", "I", 255, ")V", true),
+        ("(", "I", 256, ")V", false),
+        ("(", "J", 127, "I)V", true),
+        ("(", "J", 128, ")V", false),
+    ];
+    for (front, part, count, end, is_lawful) in cases {
+        let text = repeated(rt.alloc(), front, part, count, end)?;
+        assert_eq!(rt;
+            takes_entries(rt.alloc(), &text, &NAME_AND_TYPE)?,
+            is_lawful,
+            "{part} {count}"
+        );
+    }
+    Ok(())
+}
+
+#[test]
+fn pop_of_nothing(rt: HostRuntime) -> Result<(), Fail> {
+    let mut bytes = MAIN[..127].to_vec(rt.alloc())?;
+    bytes.extend_from_slice(&[0x57, 0xb8, 0, 10, 0xb1])?;
+    bytes.extend_from_slice(&MAIN[132..])?;
+    assert!(rt; read_class(rt.alloc(), &bytes)?.is_none());
+    Ok(())
+}
