@@ -1,3 +1,6 @@
+pub mod Builds
 pub mod ConfigWords
 pub mod OneByOne
 pub mod Parameters
+pub mod Troubles
+pub mod Writes

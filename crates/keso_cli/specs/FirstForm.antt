@@ -1,11 +1,14 @@
+pub mod Application
 pub mod Bytes
 pub mod Class
 pub mod Code
 pub mod Config
 pub mod Descriptors
+pub mod Fits
 pub mod LineViews
 pub mod Lines
 pub mod Methods
 pub mod Names
 pub mod Pool
+pub mod Program
 pub mod Words

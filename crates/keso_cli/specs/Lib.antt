@@ -1,1 +1,16 @@
+pub mod Asked
+pub mod BuildEnds
+pub mod CommandEnds
+pub mod Due
+pub mod ExitCode
 pub mod FirstForm
+pub mod Headline
+pub mod Left
+pub mod Request
+pub mod Said
+pub mod Seen
+pub mod Stands
+pub mod Stops
+pub mod Summary
+pub mod Tells
+pub mod Texts

@@ -1,9 +1,54 @@
 //! KESO compiles Java class files for control units under OSEK.
 #![tactic(auto)]
 
+mod build;
+mod built;
+mod compile;
 mod config;
 mod config_lines;
 mod config_words;
+mod emit;
 mod first_class;
+mod report;
+mod status;
+mod summary;
+#[cfg(test)]
+mod tests;
+mod top;
+mod trouble;
+mod words;
 
-fn main() {}
+use crate::status::Status;
+use crate::top::keso;
+use kes_outside::{HostFiles, HostSink};
+use std::io::ErrorKind;
+use std::process::ExitCode;
+use std::{env, io};
+
+/// The words behind the program's own name. Words that aren't all UTF-8 are no command, as no words are.
+fn given_words(rt: &(impl env::Env + AllocGlobal)) -> Result<Vec<String>, Status> {
+    match env::args(rt) {
+        Ok(words) => Ok(
+            words
+                .skip(1)
+                .collect(rt.alloc())
+                .map_err(|_| Status::NoMemory)?,
+        ),
+        Err(error) if error.kind() == ErrorKind::OutOfMemory => Err(Status::NoMemory),
+        Err(_) => Ok(Vec::new(rt.alloc())),
+    }
+}
+
+fn main(rt: HostRuntime) -> ExitCode {
+    let status = match given_words(&rt) {
+        Ok(words) => keso(
+            rt.alloc(),
+            words.as_slice(),
+            &mut HostFiles::new(&rt),
+            &mut HostSink::new(rt.stdout()),
+            &mut HostSink::new(rt.stderr()),
+        ),
+        Err(status) => status,
+    };
+    ExitCode::from(status.code())
+}

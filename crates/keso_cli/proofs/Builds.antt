@@ -1,0 +1,105 @@
+-- What a build has read, made and written, where it stops.
+use Rattle.std.proofs.Common.{◌≡◌, ℕ, ◌≤◌, List, [], ◌∷◌, ◌++◌, Option, Some, None, IfSome, IsSomeAnd, map, take, refl, sym, ap, subst, ◌∙◌, inl, inr, arith, append-nil, string_bytes}
+use Rattle.std.specs.FinMap.{get}
+use Rattle.kes_outside.specs.Contents.{Contents, OthersStay}
+use Rattle.csubset.specs.Text.Program.{program_text}
+use Rattle.oil_out.specs.OilText.{oil_text}
+use Rattle.keso_cli.specs.declared.built.Built.{Built}
+use Rattle.keso_cli.specs.declared.compile.Texts.{Texts}
+use Rattle.keso_cli.specs.declared.trouble.Trouble.{Trouble}
+use Rattle.keso_cli.specs.declared.trouble.Trouble.TheVariants.{Usage, CannotRead, Refused, CannotWrite, CannotWriteOutput, NoMemory}
+use Rattle.keso_cli.specs.BuildEnds.{BuildStops, InputSays, IsBuiltFrom, Untouched, first_summary}
+use Rattle.keso_cli.specs.Due.{due, AreTextsOf}
+use Rattle.keso_cli.specs.FirstForm.Fits.{first_form}
+use Rattle.keso_cli.specs.FirstForm.Program.{built_of}
+use Rattle.keso_cli.specs.declared.config.FirstConfig.{FirstConfig}
+use Rattle.keso_cli.specs.declared.first_class.FirstClass.{FirstClass}
+use Rattle.keso_cli.specs.Left.{Written}
+use Rattle.keso_cli.specs.Seen.{FilesSeen, SinkSeen, TakesPrefix}
+use Rattle.keso_cli.specs.Stops.{CompileStops, WritesStop, PutStops}
+use Rattle.keso_cli.specs.Summary.{summary_text}
+use Rattle.keso_cli.specs.Texts.{Text, named, texts_of, written}
+
+-- the texts that the code has are those of what was built
+pub due-is : (base : List ℕ) (built : Built) (texts : Texts) → AreTextsOf built texts → due base texts ≡ texts_of base built
+unfolding texts_of
+due-is base built texts are =
+    let programs = ap (λ c. named base c texts.oil.items texts.map.items) are.c in
+    let tables = ap (λ oil. named base (program_text built.program) oil texts.map.items) are.oil in
+    programs ∙ tables ∙ ap (named base (program_text built.program) (oil_text built.tables)) are.map
+
+-- The configuration and the class were read.
+pub record InputIs (config class text bytes : List ℕ) (files : FilesSeen) : Type 0 where
+  pub config_read : IfSome files.contents (λ held. get held config ≡ Some text)
+  pub class_read : IfSome files.contents (λ held. get held class ≡ Some bytes)
+
+pub input_says : (said : Option (FirstConfig × FirstClass)) (config class text bytes : List ℕ) (files : FilesSeen) → InputIs config class text bytes files
+    → first_form text (bytes ∷ []) ≡ said → InputSays said config (class ∷ []) files
+input_says said config class text bytes files input form = by_contents files.contents input.config_read input.class_read where
+  by_contents : (held : Option Contents) → IfSome held (λ files. get files config ≡ Some text) → IfSome held (λ files. get files class ≡ Some bytes)
+      → IfSome held (λ files. (t : List ℕ) × (bs : List (List ℕ)) × (get files config ≡ Some t) × (map (get files) (class ∷ []) ≡ map Some bs) × (first_form t bs ≡ said))
+  by_contents None c k = tt
+  by_contents (Some held) c k = (text, bytes ∷ [], c, ap (λ o. o ∷ []) k, form)
+
+-- what was compiled is what is written for the input
+pub built_from : (first : FirstConfig) (second : FirstClass) (config class text bytes : List ℕ) (files : FilesSeen) → InputIs config class text bytes files
+    → first_form text (bytes ∷ []) ≡ Some (first, second) → IsBuiltFrom (built_of first second) config (class ∷ []) files
+built_from first second config class text bytes files input form =
+    record { first = first; second = second; said = input_says (Some (first, second)) config class text bytes files input form; made = refl }
+
+pub compile_stops : (trouble : Trouble) (config class base text bytes : List ℕ) (files files' : FilesSeen) (out out' : SinkSeen)
+    → InputIs config class text bytes files
+    → Untouched files files' out out' → CompileStops trouble config text (bytes ∷ []) → BuildStops trouble config (class ∷ []) base files files' out out'
+compile_stops (Refused refusal name) config class base text bytes files files' out out' input same h =
+    (h.0, h.1, input_says None config class text bytes files input h.2, same)
+compile_stops NoMemory config class base text bytes files files' out out' input same h = inl same
+compile_stops Usage config class base text bytes files files' out out' input same h = absurd h
+compile_stops (CannotRead name) config class base text bytes files files' out out' input same h = absurd h
+compile_stops (CannotWrite name) config class base text bytes files files' out out' input same h = absurd h
+compile_stops CannotWriteOutput config class base text bytes files files' out out' input same h = absurd h
+
+-- what was written since the input was read was written since the call began
+pub written_since : (texts : List Text) (before mid after : FilesSeen) → mid.contents ≡ before.contents → Written texts mid after → Written texts before after
+written_since texts before mid after same h = subst (λ o. IfSome o (λ files. after.contents ≡ Some (written texts files))) same h
+
+pub writes_stop : (trouble : Trouble) (config base : List ℕ) (classes : List (List ℕ)) (built : Built) (before mid after : FilesSeen) (out : SinkSeen)
+    → IsBuiltFrom built config classes before → mid.contents ≡ before.contents → before.faults ≤ mid.faults
+    → WritesStop trouble (texts_of base built) mid after → BuildStops trouble config classes base before after out out
+writes_stop (CannotWrite name) config base classes built before mid after out from same count h = (
+  built,
+  from,
+  record {
+    whole = h.whole;
+    failed = h.failed;
+    later = h.later;
+    parts = h.parts;
+    name_is = h.name_is;
+    stands = subst (λ o. IfSome o (λ files. IsSomeAnd after.contents (OthersStay (string_bytes name) (written h.whole files)))) same h.stands;
+    counted = let c = h.counted in omega arith;
+  },
+  refl,
+)
+writes_stop NoMemory config base classes built before mid after out from same count h =
+    inr (built, from, inl (record { whole = h.whole; later = h.later; parts = h.parts; stands = written_since h.whole before mid after same h.stands }, refl))
+writes_stop Usage config base classes built before mid after out from same count h = absurd h
+writes_stop (CannotRead name) config base classes built before mid after out from same count h = absurd h
+writes_stop (Refused refusal name) config base classes built before mid after out from same count h = absurd h
+writes_stop CannotWriteOutput config base classes built before mid after out from same count h = absurd h
+
+-- a sink that took nothing took the first bytes of anything
+none_taken : (bytes : List ℕ) (before after : SinkSeen) → after.taken ≡ before.taken → TakesPrefix bytes before after
+none_taken bytes before after same = by_taken before.taken same where
+  by_taken : (held : Option (List ℕ)) → after.taken ≡ held → IfSome held (λ taken. (n : ℕ) × (after.taken ≡ Some (taken ++ take n bytes)))
+  by_taken None e = tt
+  by_taken (Some taken) e = (0, e ∙ ap Some (sym (append-nil taken)))
+
+pub put_stops : (trouble : Trouble) (config base : List ℕ) (classes : List (List ℕ)) (built : Built) (files files' : FilesSeen) (out out' : SinkSeen)
+    → IsBuiltFrom built config classes files → Written (texts_of base built) files files'
+    → PutStops trouble (summary_text first_summary) out out' → BuildStops trouble config classes base files files' out out'
+put_stops CannotWriteOutput config base classes built files files' out out' from stands h = (built, from, stands, h.0, h.1)
+put_stops NoMemory config base classes built files files' out out' from stands h =
+    inr (built, from, inr (stands, none_taken (summary_text first_summary) out out' h))
+put_stops Usage config base classes built files files' out out' from stands h = absurd h
+put_stops (CannotRead name) config base classes built files files' out out' from stands h = absurd h
+put_stops (Refused refusal name) config base classes built files files' out out' from stands h = absurd h
+put_stops (CannotWrite name) config base classes built files files' out out' from stands h = absurd h

@@ -1,0 +1,54 @@
+-- A command that stopped, and what was told of it.
+use Rattle.std.proofs.Common.{ℕ, List, Option, Some, None, ◌⊎◌, inl, inr, sym, ap, ◌∙◌, subst}
+use Rattle.kes_text.specs.declared.refusal.Refusal.{Refusal}
+use Rattle.kes_text.specs.Complaints.{refusal_text}
+use Rattle.keso_cli.specs.declared.status.Status.{Status}
+use Rattle.keso_cli.specs.declared.trouble.Trouble.{Trouble}
+use Rattle.keso_cli.specs.declared.trouble.Trouble.TheVariants.{Usage, CannotRead, Refused, CannotWrite, CannotWriteOutput, NoMemory}
+use Rattle.keso_cli.specs.BuildEnds.{BuildStops, later}
+use Rattle.keso_cli.specs.CommandEnds.{CommandStops}
+use Rattle.keso_cli.specs.Request.{Request, Build}
+use Rattle.keso_cli.specs.Seen.{TakesUnlessFailed}
+use Rattle.keso_cli.specs.Stands.{Outside, Stands, StandsAfterBuild, StandsWithoutCommand, CameSoFar, NothingIsDone}
+use Rattle.keso_cli.specs.Tells.{Tells, line_of, status_of}
+
+-- how far a build came that stopped
+far : (trouble : Trouble) (config : List ℕ) (classes : List (List ℕ)) (base : List ℕ) (before after : Outside)
+    → BuildStops trouble config classes base before.files after.files before.out after.out → NothingIsDone before after ⊎ CameSoFar config classes base before after
+far Usage config classes base before after h = absurd h
+far (CannotRead name) config classes base before after h = inl h.2
+far (Refused refusal name) config classes base before after h = inl h.3
+far (CannotWrite name) config classes base before after h = inr (h.0, h.1, inr ((_, h.2), h.3))
+far CannotWriteOutput config classes base before after h = inr (h.0, h.1, inl (inr (h.2, h.3)))
+far NoMemory config classes base before after (inl h) = inl h
+far NoMemory config classes base before after (inr h) = inr (h.0, h.1, inl h.2)
+
+-- the trouble's own status and line
+own : (trouble : Trouble) (config : List ℕ) (classes : List (List ℕ)) (base : List ℕ) (before after : Outside)
+    → BuildStops trouble config classes base before.files after.files before.out after.out → TakesUnlessFailed (line_of trouble) before.err after.err
+    → StandsAfterBuild (status_of trouble) config classes base before after
+own Usage config classes base before after h line = absurd h
+own (CannotRead name) config classes base before after h line =
+    record { name = name.now; is_read = h.0; cause = h.1; nothing = h.2; line = line }
+own (Refused refusal name) config classes base before after h line =
+    let says : Refusal → List ℕ → Type 0 = λ r n. TakesUnlessFailed (refusal_text r n) before.err after.err in
+    record { cause = h.2; nothing = h.3; line = subst (says later) h.1 (subst (λ r. says r name.now) h.0 line) }
+own (CannotWrite name) config classes base before after h line =
+    inl (record { built = h.0; from = h.1; name = _; stands = h.2; out_stays = h.3; line = line })
+own CannotWriteOutput config classes base before after h line =
+    inr (record { built = h.0; from = h.1; stands = h.2; out_took = h.3; counted = h.4; line = line })
+own NoMemory config classes base before after h line =
+    record { far = far NoMemory config classes base before after h; line = inl line }
+
+pub stands_after : (trouble : Trouble) (request : Option Request) (answer : Status) (before after : Outside)
+    → CommandStops trouble request before.files after.files before.out after.out → Tells trouble answer before.err after.err
+    → Stands answer request before after
+stands_after trouble None answer before after h (inl t) =
+    subst (λ s. StandsWithoutCommand s before after) (sym (t.0 ∙ ap status_of h.0))
+    (record { nothing = record { files_stay = h.1; out_stays = h.2 }; line = subst (λ about. TakesUnlessFailed (line_of about) before.err after.err) h.0 t.1 })
+stands_after trouble None answer before after h (inr t) =
+    subst (λ s. StandsWithoutCommand s before after) (sym t.0) (record { nothing = record { files_stay = h.1; out_stays = h.2 }; line = t.1 })
+stands_after trouble (Some (Build config classes base)) answer before after h (inl t) =
+    subst (λ s. StandsAfterBuild s config classes base before after) (sym t.0) (own trouble config classes base before after h t.1)
+stands_after trouble (Some (Build config classes base)) answer before after h (inr t) =
+    subst (λ s. StandsAfterBuild s config classes base before after) (sym t.0) (record { far = far trouble config classes base before after h; line = t.1 })

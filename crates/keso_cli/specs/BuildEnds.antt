@@ -1,0 +1,74 @@
+-- How a build ends, and what then stands in the files and on the output.
+use Rattle.std.specs.Prelude.{◌≡◌, ℕ, List, ◌∷◌, Option, Some, None, IfSome, ◌⊎◌, Contains, string_bytes, map}
+use Rattle.std.specs.FinMap.{get}
+use Rattle.kes_outside.specs.Count.{Rose}
+use Rattle.kes_text.specs.declared.refusal.Refusal.{Refusal}
+use Rattle.kes_text.specs.declared.refusal.Kind.TheVariants.{Later}
+use Rattle.keso_cli.specs.declared.trouble.Trouble.{Trouble}
+use Rattle.keso_cli.specs.declared.trouble.Trouble.TheVariants.{Usage, CannotRead, Refused, CannotWrite, CannotWriteOutput, NoMemory}
+use Rattle.keso_cli.specs.declared.built.Built.{Built}
+use Rattle.keso_cli.specs.Texts.{texts_of}
+use Rattle.keso_cli.specs.declared.summary.Summary.{Summary}
+use Rattle.keso_cli.specs.Summary.{summary_text}
+use Rattle.keso_cli.specs.Seen.{FilesSeen, SinkSeen, Takes, TakesPrefix}
+use Rattle.keso_cli.specs.Left.{CannotBeRead, Written, WrittenInPart, WriteFailed}
+use Rattle.keso_cli.specs.declared.config.FirstConfig.{FirstConfig}
+use Rattle.keso_cli.specs.declared.first_class.FirstClass.{FirstClass}
+use Rattle.keso_cli.specs.FirstForm.Fits.{first_form}
+use Rattle.keso_cli.specs.FirstForm.Program.{built_of}
+
+-- what the first form counts: one method, no check, and no call of a method
+abbrev pub first_summary : Summary
+first_summary = record { methods = 1; checks_kept = 0; checks_removed = 0; direct_calls = 0 }
+
+-- The input isn't compiled yet.
+abbrev pub later : Refusal
+later = record { file = 0; kind = Later; at = 0 }
+
+-- The files are as before, and the output has taken nothing.
+pub record Untouched (files files' : FilesSeen) (out out' : SinkSeen) : Type 0 where
+  pub files_stay : files'.contents ≡ files.contents
+  pub out_stays : out'.taken ≡ out.taken
+
+-- The configuration and the classes stand in the files, and say this: None where they aren't of the first form.
+abbrev pub InputSays : Option (FirstConfig × FirstClass) → List ℕ → List (List ℕ) → FilesSeen → Type 0
+InputSays said config classes files = IfSome files.contents (λ held.
+    (text : List ℕ) × (bytes : List (List ℕ))
+    × (get held config ≡ Some text) × (map (get held) classes ≡ map Some bytes) × (first_form text bytes ≡ said))
+
+-- What was built is what is written for the input.
+pub record IsBuiltFrom (built : Built) (config : List ℕ) (classes : List (List ℕ)) (files : FilesSeen) : Type 0 where
+  pub first : FirstConfig
+  pub second : FirstClass
+  pub said : InputSays (Some (first, second)) config classes files
+  pub made : built ≡ built_of first second
+
+-- A build made its texts before it wrote the first: this is how far it came.
+abbrev pub StoppedWriting : List ℕ → Built → FilesSeen → FilesSeen → SinkSeen → SinkSeen → Type 0
+StoppedWriting base built files files' out out' =
+    (WrittenInPart (texts_of base built) files files' × (out'.taken ≡ out.taken))
+    ⊎ (Written (texts_of base built) files files' × TakesPrefix (summary_text first_summary) out out')
+
+-- All texts stand in their files, and the output has taken the four lines.
+pub record BuildIsDone (config : List ℕ) (classes : List (List ℕ)) (base : List ℕ) (files files' : FilesSeen) (out out' : SinkSeen) : Type 0 where
+  pub built : Built
+  pub from : IsBuiltFrom built config classes files
+  pub stands : Written (texts_of base built) files files'
+  pub lines : Takes (summary_text first_summary) out out'
+
+abbrev pub BuildStops : Trouble → List ℕ → List (List ℕ) → List ℕ → FilesSeen → FilesSeen → SinkSeen → SinkSeen → Type 0
+BuildStops Usage config classes base files files' out out' = ⊥
+BuildStops (CannotRead name) config classes base files files' out out' =
+    Contains (config ∷ classes) name.now × CannotBeRead name.now files files' × Untouched files files' out out'
+BuildStops (Refused refusal name) config classes base files files' out out' =
+    (refusal ≡ later) × (name.now ≡ config) × InputSays None config classes files × Untouched files files' out out'
+BuildStops (CannotWrite name) config classes base files files' out out' =
+    (built : Built) × IsBuiltFrom built config classes files
+    × WriteFailed (texts_of base built) (string_bytes name) files files' × (out'.taken ≡ out.taken)
+BuildStops CannotWriteOutput config classes base files files' out out' =
+    (built : Built) × IsBuiltFrom built config classes files
+    × Written (texts_of base built) files files'
+    × TakesPrefix (summary_text first_summary) out out' × Rose out.faults out'.faults
+BuildStops NoMemory config classes base files files' out out' =
+    Untouched files files' out out'
+    ⊎ ((built : Built) × IsBuiltFrom built config classes files × StoppedWriting base built files files' out out')

@@ -1,0 +1,17 @@
+-- The texts of a build as the code has them.
+use Rattle.std.specs.Prelude.{◌≡◌, ℕ, List}
+use Rattle.keso_cli.specs.declared.compile.Texts.{Texts}
+use Rattle.keso_cli.specs.declared.built.Built.{Built}
+use Rattle.keso_cli.specs.Texts.{Text, named}
+use Rattle.csubset.specs.Text.Program.{program_text}
+use Rattle.mapfile.specs.MapText.{map_text}
+use Rattle.oil_out.specs.OilText.{oil_text}
+
+-- each text with its file's name, in the order in which they are written
+abbrev pub due : List ℕ → Texts → List Text
+due base texts = named base texts.c.items texts.oil.items texts.map.items
+
+pub record AreTextsOf (built : Built) (texts : Texts) : Type 0 where
+  pub c : texts.c.items ≡ program_text built.program
+  pub oil : texts.oil.items ≡ oil_text built.tables
+  pub map : texts.map.items ≡ map_text built.map

@@ -1,0 +1,33 @@
+-- A configuration and a class of the first form that belong together.
+use Rattle.std.specs.Prelude.{ℕ, Bool, true, false, not, ◌&&◌, List, [], ◌∷◌, ◌++◌, codes, Option, Some, None, if◌then◌else◌}
+use Rattle.std.specs.Str.{bytes_eq}
+use Rattle.kes_text.specs.Shown.{shown}
+use Rattle.keso_cli.specs.declared.config.FirstConfig.{FirstConfig}
+use Rattle.keso_cli.specs.declared.first_class.FirstClass.{FirstClass}
+use Rattle.keso_cli.specs.FirstForm.Config.{config_of}
+use Rattle.keso_cli.specs.FirstForm.Words.{is_object_name}
+use Rattle.keso_cli.specs.FirstForm.Class.{class_of}
+
+abbrev pub is_empty : List ℕ → Bool
+is_empty [] = true
+is_empty (first ∷ others) = false
+
+-- a method as it is shown: Class/Name.method(desc)ret
+abbrev pub method_text : List ℕ → List ℕ → List ℕ → List ℕ
+method_text class method descriptor = shown class ++ codes "." ++ shown method ++ descriptor
+
+-- The class has a name, the task's entry is its method with code, and the native line names its native method.
+abbrev pub fits : FirstConfig → FirstClass → Bool
+fits config class =
+    not (is_empty class.name) && is_object_name class.entry
+    && bytes_eq config.entry (method_text class.name class.entry [])
+    && bytes_eq config.method (method_text class.name class.native (codes "()I"))
+
+abbrev pub if_they_fit : Option FirstConfig → Option FirstClass → Option (FirstConfig × FirstClass)
+if_they_fit (Some config) (Some class) = if fits config class then Some (config, class) else None
+if_they_fit _ _ = None
+
+-- what a configuration and one class of the first form say
+abbrev pub first_form : List ℕ → List (List ℕ) → Option (FirstConfig × FirstClass)
+first_form text (class ∷ []) = if_they_fit (config_of text) (class_of class)
+first_form _ _ = None

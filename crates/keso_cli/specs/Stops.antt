@@ -1,0 +1,43 @@
+-- Where the steps of a build stop.
+use Rattle.std.specs.Prelude.{◌≡◌, ℕ, List, None, IfSome, IsSomeAnd, string_bytes}
+use Rattle.kes_outside.specs.Contents.{OthersStay}
+use Rattle.kes_outside.specs.Count.{Rose}
+use Rattle.keso_cli.specs.declared.trouble.Trouble.{Trouble}
+use Rattle.keso_cli.specs.declared.trouble.Trouble.TheVariants.{CannotRead, Refused, CannotWrite, CannotWriteOutput, NoMemory}
+use Rattle.keso_cli.specs.Texts.{Text}
+use Rattle.keso_cli.specs.BuildEnds.{later}
+use Rattle.keso_cli.specs.Left.{CannotBeRead, WrittenInPart, WriteFailed}
+use Rattle.keso_cli.specs.Seen.{FilesSeen, SinkSeen, TakesPrefix}
+use Rattle.keso_cli.specs.FirstForm.Fits.{first_form}
+
+-- A file of this name isn't read.
+abbrev pub ReadStops : Trouble → List ℕ → FilesSeen → FilesSeen → Type 0
+ReadStops (CannotRead read) name before after = (read.now ≡ name) × CannotBeRead name before after
+ReadStops NoMemory name before after = Unit {0}
+ReadStops _ name before after = ⊥
+
+-- The input of this configuration's name isn't compiled.
+abbrev pub CompileStops : Trouble → List ℕ → List ℕ → List (List ℕ) → Type 0
+CompileStops (Refused refusal refused) name config classes = (refusal ≡ later) × (refused.now ≡ name) × (first_form config classes ≡ None)
+CompileStops NoMemory name config classes = Unit {0}
+CompileStops _ name config classes = ⊥
+
+-- A text isn't written to its file.
+abbrev pub WriteStops : Trouble → Text → FilesSeen → FilesSeen → Type 0
+WriteStops (CannotWrite written) text before after =
+    (string_bytes written ≡ text.name) × Rose before.faults after.faults
+    × IfSome before.contents (λ files. IsSomeAnd after.contents (OthersStay text.name files))
+WriteStops NoMemory text before after = after.contents ≡ before.contents
+WriteStops _ text before after = ⊥
+
+-- Not all of the texts are written.
+abbrev pub WritesStop : Trouble → List Text → FilesSeen → FilesSeen → Type 0
+WritesStop (CannotWrite written) due before after = WriteFailed due (string_bytes written) before after
+WritesStop NoMemory due before after = WrittenInPart due before after
+WritesStop _ due before after = ⊥
+
+-- The output doesn't take all of the lines.
+abbrev pub PutStops : Trouble → List ℕ → SinkSeen → SinkSeen → Type 0
+PutStops CannotWriteOutput lines before after = TakesPrefix lines before after × Rose before.faults after.faults
+PutStops NoMemory lines before after = after.taken ≡ before.taken
+PutStops _ lines before after = ⊥

@@ -1,0 +1,116 @@
+ghost use Rattle.std.specs.Prelude.{◌≡◌, ℕ, ◌≤◌, ◌∷◌, [], ◌++◌, Some, IfOk, IfErr, IfSome, OnOk, codes, string_bytes};
+ghost use Rattle.std.specs.FinMap.{get};
+ghost use Rattle.keso_cli.specs.Due.{due};
+ghost use Rattle.keso_cli.specs.BuildEnds.{BuildIsDone, BuildStops, first_summary};
+ghost use Rattle.keso_cli.specs.Left.{Writes, Written};
+ghost use Rattle.keso_cli.specs.Seen.{files_seen, sink_seen, Takes};
+ghost use Rattle.keso_cli.specs.Stops.{ReadStops, WriteStops, WritesStop, PutStops};
+ghost use Rattle.keso_cli.specs.Summary.{summary_text};
+
+use crate::compile::{Texts, compile};
+use crate::summary::{FIRST_SUMMARY, summary_lines};
+use crate::trouble::Trouble;
+use crate::words::Build;
+use kes_outside::{FileFault, Files, ReadStop, Sink, SinkFault};
+use kes_text::NoMemory;
+use std::alloc::Global;
+
+/// The bytes of the named file.
+fn read<'a, F: Files>(alloc: Global, files: &mut F, name: &'a str) -> Result<Vec<u8>, Trouble<'a>>
+    ensures ok { IfOk result (λ bytes. IfSome (F.contents files.old) (λ held. get held name.now ≡ Some bytes.items)) }
+    ensures stays { F.contents files.new ≡ F.contents files.old }
+    ensures count { F.faults files.old ≤ F.faults files.new }
+    ensures stop { IfErr result (λ ending. ReadStops ending name.now
+        (files_seen F.contents F.faults files.old) (files_seen F.contents F.faults files.new)) }
+{
+    match files.read(alloc, name) {
+        Ok(bytes) => Ok(bytes),
+        Err(ReadStop::Missing | ReadStop::Failed) => Err(Trouble::CannotRead(name)),
+        Err(ReadStop::NoMemory) => Err(Trouble::NoMemory),
+    }
+}
+
+/// The name of one of a build's files.
+fn file_name(alloc: Global, base: &str, ending: &str) -> Result<String, NoMemory>
+    ensures { IfOk result (λ name. string_bytes name ≡ base.now ++ ending.now) }
+{
+    let mut name = String::from_str(alloc, base)?;
+    name.push_str(ending)?;
+    Ok(name)
+}
+
+/// Writes one text to the file whose name is the base and this ending.
+fn write_text<F: Files>(
+    alloc: Global,
+    files: &mut F,
+    base: &str,
+    ending: &str,
+    bytes: &[u8],
+) -> Result<(), Trouble<'static>>
+    ensures ok { OnOk result (Writes (record { name = base.now ++ ending.now; bytes = bytes.now })
+        (files_seen F.contents F.faults files.old) (files_seen F.contents F.faults files.new)) }
+    ensures count { F.faults files.old ≤ F.faults files.new }
+    ensures stop { IfErr result (λ stop. WriteStops stop (record { name = base.now ++ ending.now; bytes = bytes.now })
+        (files_seen F.contents F.faults files.old) (files_seen F.contents F.faults files.new)) }
+{
+    let name = file_name(alloc, base, ending)?;
+    match files.write(alloc, name.as_str(), bytes) {
+        Ok(()) => Ok(()),
+        Err(FileFault::Failed) => Err(Trouble::CannotWrite(name)),
+        Err(FileFault::NoMemory) => Err(Trouble::NoMemory),
+    }
+}
+
+/// Writes the three texts, in the order C, OIL, map.
+fn write_texts<F: Files>(
+    alloc: Global,
+    files: &mut F,
+    base: &str,
+    texts: &Texts,
+) -> Result<(), Trouble<'static>>
+    ensures ok { OnOk result (Written (due base.now texts.now)
+        (files_seen F.contents F.faults files.old) (files_seen F.contents F.faults files.new)) }
+    ensures count { F.faults files.old ≤ F.faults files.new }
+    ensures stop { IfErr result (λ ending. WritesStop ending (due base.now texts.now)
+        (files_seen F.contents F.faults files.old) (files_seen F.contents F.faults files.new)) }
+{
+    write_text(alloc, files, base, ".c", texts.c.as_slice())?;
+    write_text(alloc, files, base, ".oil", texts.oil.as_slice())?;
+    write_text(alloc, files, base, ".map", texts.map.as_slice())
+}
+
+/// Puts the four lines on the output.
+fn put_summary<O: Sink>(alloc: Global, out: &mut O) -> Result<(), Trouble<'static>>
+    ensures ok { OnOk result (Takes (summary_text first_summary)
+        (sink_seen O.taken O.faults out.old) (sink_seen O.taken O.faults out.new)) }
+    ensures stop { IfErr result (λ ending. PutStops ending (summary_text first_summary)
+        (sink_seen O.taken O.faults out.old) (sink_seen O.taken O.faults out.new)) }
+{
+    let text = summary_lines(alloc, FIRST_SUMMARY)?;
+    match out.put(alloc, text.as_slice()) {
+        Ok(()) => Ok(()),
+        Err(SinkFault::Failed) => Err(Trouble::CannotWriteOutput),
+        Err(SinkFault::NoMemory) => Err(Trouble::NoMemory),
+    }
+}
+
+/// The command `build`: reads, compiles and writes, and stops at the first step that fails.
+pub fn build<'a, F: Files, O: Sink>(
+    alloc: Global,
+    names: Build<'a>,
+    files: &mut F,
+    out: &mut O,
+) -> Result<(), Trouble<'a>>
+    ensures ok { OnOk result (BuildIsDone names.entry.config.now (names.entry.class.now ∷ []) names.entry.base.now
+        (files_seen F.contents F.faults files.old) (files_seen F.contents F.faults files.new)
+        (sink_seen O.taken O.faults out.old) (sink_seen O.taken O.faults out.new)) }
+    ensures stop { IfErr result (λ trouble. BuildStops trouble names.entry.config.now (names.entry.class.now ∷ []) names.entry.base.now
+        (files_seen F.contents F.faults files.old) (files_seen F.contents F.faults files.new)
+        (sink_seen O.taken O.faults out.old) (sink_seen O.taken O.faults out.new)) }
+{
+    let config = read(alloc, files, names.config)?;
+    let class = read(alloc, files, names.class)?;
+    let texts = compile(alloc, names.config, config.as_slice(), class.as_slice())?;
+    write_texts(alloc, files, names.base, &texts)?;
+    put_summary(alloc, out)
+}

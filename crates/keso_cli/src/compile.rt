@@ -1,0 +1,102 @@
+ghost use Rattle.std.specs.Prelude.{◌≡◌, ◌∷◌, [], Some, IfOk, IfErr};
+ghost use Rattle.std.specs.Option.{option_map};
+ghost use Rattle.keso_cli.specs.declared.config.FirstConfig.{FirstConfig};
+ghost use Rattle.keso_cli.specs.declared.first_class.FirstClass.{FirstClass};
+ghost use Rattle.keso_cli.specs.Due.{AreTextsOf};
+ghost use Rattle.keso_cli.specs.FirstForm.Fits.{fits, first_form};
+ghost use Rattle.keso_cli.specs.FirstForm.Program.{built_of};
+ghost use Rattle.keso_cli.specs.Said.{said};
+ghost use Rattle.keso_cli.specs.Stops.{CompileStops};
+
+use crate::built::Built;
+use crate::config::{FirstConfig, read_config};
+use crate::config_words::is_object_name;
+use crate::emit::{emit, shown_method};
+use crate::first_class::{FirstClass, read_class};
+use crate::trouble::Trouble;
+use c_out::print_c;
+use kes_text::{Kind, NoMemory, Refusal};
+use mapfile::print_map;
+use oil_out::print_oil;
+use std::alloc::Global;
+
+/// The input isn't compiled yet.
+const LATER: Refusal = Refusal {
+    file: 0,
+    kind: Kind::Later,
+    at: 0,
+};
+
+/// The three texts that a build writes.
+#[derive(Drop)]
+pub struct Texts {
+    pub c: Vec<u8>,
+    pub oil: Vec<u8>,
+    pub map: Vec<u8>,
+}
+
+/// An input of the first form.
+#[derive(Drop)]
+struct FirstInput {
+    config: FirstConfig,
+    class: FirstClass,
+}
+
+/// Whether the configuration and the class belong together.
+fn fits(alloc: Global, config: &FirstConfig, class: &FirstClass) -> Result<bool, NoMemory>
+    ensures { IfOk result (λ answer. answer ≡ fits config.now class.now) }
+{
+    let (name, entry) = (class.name.as_slice(), class.entry.as_slice());
+    let shown_entry = shown_method(alloc, name, entry, "")?;
+    let shown_native = shown_method(alloc, name, class.native.as_slice(), "()I")?;
+    Ok(
+        !name.is_empty()
+            && is_object_name(entry)
+            && config.entry.as_slice() == shown_entry.as_slice()
+            && config.method.as_slice() == shown_native.as_slice(),
+    )
+}
+
+/// The input, if it is of the first form.
+fn first_input(alloc: Global, config: &[u8], class: &[u8]) -> Result<Option<FirstInput>, NoMemory>
+    ensures { IfOk result (λ found. option_map said found ≡ first_form config.now (class.now ∷ [])) }
+{
+    let (Some(config), Some(class)) = (read_config(alloc, config)?, read_class(alloc, class)?)
+    else {
+        return Ok(None);
+    };
+    if fits(alloc, &config, &class)? {
+        Ok(Some(FirstInput { config, class }))
+    } else {
+        Ok(None)
+    }
+}
+
+/// The texts of what was built.
+fn texts_of(alloc: Global, built: &Built) -> Result<Texts, NoMemory>
+    ensures { IfOk result (AreTextsOf built.now) }
+{
+    Ok(Texts {
+        c: print_c(alloc, &built.program)?,
+        oil: print_oil(alloc, &built.tables)?,
+        map: print_map(alloc, &built.map)?,
+    })
+}
+
+/// The texts of an input of the first form. Any other is refused, under the configuration's name.
+pub fn compile<'a>(
+    alloc: Global,
+    name: &'a str,
+    config: &[u8],
+    class: &[u8],
+) -> Result<Texts, Trouble<'a>>
+    ensures texts { IfOk result (λ texts. (first : FirstConfig) × (second : FirstClass)
+        × (first_form config.now (class.now ∷ []) ≡ Some (first, second)) × AreTextsOf (built_of first second) texts) }
+    ensures stop { IfErr result (λ trouble. CompileStops trouble name.now config.now (class.now ∷ [])) }
+{
+    let Some(input) = first_input(alloc, config, class)? else {
+        return Err(Trouble::Refused(LATER, name));
+    };
+    let built = emit(alloc, &input.config, &input.class)?;
+    Ok(texts_of(alloc, &built)?)
+}

@@ -1,0 +1,253 @@
+use crate::status::Status;
+use crate::top::keso;
+use kes_outside::{MemFiles, MemSink};
+use std::alloc::{AllocError, Global};
+use std::test::Fail;
+
+const CONFIG: &str =
+    "keso 1 order little\ndomain app heap 64\ntask main domain app prio 1 acts 1 auto yes sched full entry Main.run\nnative Main.again()I ActivateTask main\n";
+
+/// A class whose `run` calls the native `again`, drops its answer, and returns.
+const CLASS: [u8; 138] = [
+    0xca, 0xfe, 0xba, 0xbe, 0x00, 0x00, 0x00, 0x34, 0x00, 0x0c, 0x07, 0x00, 0x02, 0x01, 0x00, 0x04,
+    0x4d, 0x61, 0x69, 0x6e, 0x07, 0x00, 0x04, 0x01, 0x00, 0x10, 0x6a, 0x61, 0x76, 0x61, 0x2f, 0x6c,
+    0x61, 0x6e, 0x67, 0x2f, 0x4f, 0x62, 0x6a, 0x65, 0x63, 0x74, 0x01, 0x00, 0x05, 0x61, 0x67, 0x61,
+    0x69, 0x6e, 0x01, 0x00, 0x03, 0x28, 0x29, 0x49, 0x01, 0x00, 0x03, 0x72, 0x75, 0x6e, 0x01, 0x00,
+    0x03, 0x28, 0x29, 0x56, 0x01, 0x00, 0x04, 0x43, 0x6f, 0x64, 0x65, 0x0a, 0x00, 0x01, 0x00, 0x0b,
+    0x0c, 0x00, 0x05, 0x00, 0x06, 0x00, 0x21, 0x00, 0x01, 0x00, 0x03, 0x00, 0x00, 0x00, 0x00, 0x00,
+    0x02, 0x01, 0x09, 0x00, 0x05, 0x00, 0x06, 0x00, 0x00, 0x00, 0x09, 0x00, 0x07, 0x00, 0x08, 0x00,
+    0x01, 0x00, 0x09, 0x00, 0x00, 0x00, 0x11, 0x00, 0x01, 0x00, 0x00, 0x00, 0x00, 0x00, 0x05, 0xb8,
+    0x00, 0x0a, 0x57, 0xb1, 0x00, 0x00, 0x00, 0x00, 0x00, 0x00,
+];
+
+/// The C behind the prologue.
+const C_TEXT: &str =
+    "#define KDEV 0ul\nDeclareTask(t_main);\nstatic W r0[8];\nstatic W f0(void);\nstatic W f0(void) {\n  W w0 = 0ull;\n  w0 = K_ActivateTask(t_main);\n  w0 = w0;\n  return 0ull;\n}\nvoid StartupHook(void) {\n}\nKTASK(t_main, f0)\n";
+
+const OIL_TEXT: &str =
+    "OIL_VERSION = \"2.5\";\n#include \"keso_impl.oil\"\nCPU keso {\n  OS os {\n    STATUS = EXTENDED;\n    STARTUPHOOK = TRUE;\n    ERRORHOOK = FALSE;\n    SHUTDOWNHOOK = FALSE;\n    PRETASKHOOK = FALSE;\n    POSTTASKHOOK = FALSE;\n    USEGETSERVICEID = FALSE;\n    USEPARAMETERACCESS = FALSE;\n    USERESSCHEDULER = FALSE;\n  };\n  APPMODE mode { };\n  TASK t_main {\n    PRIORITY = 1;\n    SCHEDULE = FULL;\n    ACTIVATION = 1;\n    AUTOSTART = TRUE { APPMODE = mode; };\n  };\n};\n";
+
+const MAP_TEXT: &str =
+    "keso map 1\norder little\ndevices 0\ndomains 1\nmethod 0 Main.run()V\nregion 0 heap 0\nfunction 0 0 method 0\nweights 1 1 1\n";
+
+const LINES: &str = "methods 1\nchecks kept 0\nchecks removed 0\ndirect calls 0\n";
+
+/// One call of the program over files and sinks in memory.
+#[derive(Drop)]
+struct Ran {
+    status: Status,
+    files: MemFiles,
+    out: MemSink,
+    err: MemSink,
+}
+
+fn file(alloc: Global, name: &str, bytes: &[u8]) -> Result<(String, Vec<u8>), AllocError> {
+    Ok((
+        String::from_str(alloc, name)?,
+        Vec::from_slice(alloc, bytes)?,
+    ))
+}
+
+fn strings(alloc: Global, words: &[&str]) -> Result<Vec<String>, AllocError> {
+    let mut strings = Vec::new(alloc);
+    for word in words {
+        strings.push(String::from_str(alloc, word)?)?;
+    }
+    Ok(strings)
+}
+
+/// Which calls fail, of the files, of the output and of standard error.
+#[derive(Clone, Copy)]
+struct Failing<'a> {
+    files: &'a [u64],
+    out: &'a [u64],
+    err: &'a [u64],
+}
+
+const NONE_FAILS: Failing<'static> = Failing {
+    files: &[],
+    out: &[],
+    err: &[],
+};
+
+fn run(
+    alloc: Global,
+    words: &[&str],
+    held: Vec<(String, Vec<u8>)>,
+    failing: Failing<'_>,
+) -> Result<Ran, AllocError> {
+    let words = strings(alloc, words)?;
+    let mut files = MemFiles::new(held, Vec::from_slice(alloc, failing.files)?);
+    let mut out = MemSink::new(alloc, Vec::from_slice(alloc, failing.out)?);
+    let mut err = MemSink::new(alloc, Vec::from_slice(alloc, failing.err)?);
+    let status = keso(alloc, words.as_slice(), &mut files, &mut out, &mut err);
+    Ok(Ran {
+        status,
+        files,
+        out,
+        err,
+    })
+}
+
+/// The example, built into base `row`, from this configuration and this class.
+fn build_of(
+    alloc: Global,
+    config: &str,
+    class: &[u8],
+    failing: Failing<'_>,
+) -> Result<Ran, AllocError> {
+    let held = vec![in alloc;
+        file(alloc, "main.cfg", config.as_bytes())?,
+        file(alloc, "Main.class", class)?,
+    ]?;
+    run(
+        alloc,
+        &["build", "main.cfg", "Main.class", "-o", "row"],
+        held,
+        failing,
+    )
+}
+
+fn has(ran: &Ran, name: &str, text: &str) -> bool {
+    ran.files.get(name) == Some(text.as_bytes())
+}
+
+fn has_c(ran: &Ran) -> bool {
+    match ran.files.get("row.c") {
+        Some(text) => text.starts_with(b"/* KESO C 1 */\n#include <stdint.h>\n")
+            && text.ends_with(C_TEXT.as_bytes()),
+        None => false,
+    }
+}
+
+#[test]
+fn the_example_is_built(rt: HostRuntime) -> Result<(), Fail> {
+    let ran = build_of(rt.alloc(), CONFIG, &CLASS, NONE_FAILS)?;
+    assert_eq!(rt; ran.status, Status::Ok);
+    assert_eq!(rt; ran.out.bytes(), LINES.as_bytes());
+    assert_eq!(rt; ran.err.bytes().len(), 0);
+    assert!(rt; has_c(&ran));
+    assert!(rt; has(&ran, "row.oil", OIL_TEXT));
+    assert!(rt; has(&ran, "row.map", MAP_TEXT));
+    assert!(rt; has(&ran, "main.cfg", CONFIG));
+    Ok(())
+}
+
+#[test]
+fn words_that_are_no_command_touch_nothing(rt: HostRuntime) -> Result<(), Fail> {
+    let alloc = rt.alloc();
+    let some: [&[&str]; 6] = [
+        &[],
+        &["build", "a", "b"],
+        &["build", "main.cfg", "Main.class", "-o"],
+        &["build", "main.cfg", "Main.class", "-o", "-row"],
+        &["build", "", "Main.class", "-o", "row"],
+        &["trace", "main.cfg", "Main.class", "-o", "row"],
+    ];
+    for words in some {
+        let ran = run(alloc, words, Vec::new(alloc), NONE_FAILS)?;
+        assert_eq!(rt; ran.status, Status::Usage);
+        assert_eq!(rt;
+            ran.err.bytes(),
+            b"keso: the words are not a command\n".as_slice()
+        );
+        assert_eq!(rt; ran.out.bytes().len(), 0);
+    }
+    Ok(())
+}
+
+#[test]
+fn a_file_that_is_not_there_is_named(rt: HostRuntime) -> Result<(), Fail> {
+    let alloc = rt.alloc();
+    let held = vec![in alloc; file(alloc, "main.cfg", CONFIG.as_bytes())?]?;
+    let ran = run(
+        alloc,
+        &["build", "main.cfg", "Main.class", "-o", "row"],
+        held,
+        NONE_FAILS,
+    )?;
+    assert_eq!(rt; ran.status, Status::ReadFault);
+    assert_eq!(rt;
+        ran.err.bytes(),
+        b"keso: cannot read Main.class\n".as_slice()
+    );
+    assert_eq!(rt; ran.files.get("row.c"), None);
+    Ok(())
+}
+
+#[test]
+fn each_read_and_write_may_fail(rt: HostRuntime) -> Result<(), Fail> {
+    let alloc = rt.alloc();
+    let cases = [
+        (0, Status::ReadFault, "keso: cannot read main.cfg\n"),
+        (1, Status::ReadFault, "keso: cannot read Main.class\n"),
+        (2, Status::WriteFault, "keso: cannot write row.c\n"),
+        (3, Status::WriteFault, "keso: cannot write row.oil\n"),
+        (4, Status::WriteFault, "keso: cannot write row.map\n"),
+    ];
+    for (call, status, line) in cases {
+        let failing = Failing {
+            files: &[call],
+            ..NONE_FAILS
+        };
+        let ran = build_of(alloc, CONFIG, &CLASS, failing)?;
+        assert_eq!(rt; ran.status, status);
+        assert_eq!(rt; ran.err.bytes(), line.as_bytes());
+        assert_eq!(rt; ran.out.bytes().len(), 0);
+        assert_eq!(rt; has_c(&ran), call > 2);
+        assert_eq!(rt; has(&ran, "row.oil", OIL_TEXT), call > 3);
+        assert_eq!(rt; ran.files.get("row.map"), None);
+    }
+    Ok(())
+}
+
+#[test]
+fn an_output_that_fails_leaves_the_files_whole(rt: HostRuntime) -> Result<(), Fail> {
+    let failing = Failing {
+        out: &[0],
+        ..NONE_FAILS
+    };
+    let ran = build_of(rt.alloc(), CONFIG, &CLASS, failing)?;
+    assert_eq!(rt; ran.status, Status::WriteFault);
+    assert_eq!(rt;
+        ran.err.bytes(),
+        b"keso: cannot write the output\n".as_slice()
+    );
+    assert!(rt; has_c(&ran) && has(&ran, "row.oil", OIL_TEXT) && has(&ran, "row.map", MAP_TEXT));
+    Ok(())
+}
+
+#[test]
+fn a_standard_error_that_fails_changes_no_status(rt: HostRuntime) -> Result<(), Fail> {
+    let failing = Failing {
+        err: &[0],
+        ..NONE_FAILS
+    };
+    let ran = build_of(rt.alloc(), "", &CLASS, failing)?;
+    assert_eq!(rt; ran.status, Status::Refused);
+    assert_eq!(rt; ran.err.bytes().len(), 0);
+    Ok(())
+}
+
+#[test]
+fn input_of_another_form_comes_later(rt: HostRuntime) -> Result<(), Fail> {
+    let alloc = rt.alloc();
+    let configs = [
+        "",
+        "keso 1 order little\n",
+        "keso 1 order middle\ndomain app heap 64\ntask main domain app prio 1 acts 1 auto yes sched full entry Main.run\nnative Main.again()I ActivateTask main\n",
+        "keso 1 order big\ndomain app heap 63\ntask main domain app prio 1 acts 1 auto yes sched full entry Main.run\nnative Main.again()I ActivateTask main\n",
+        "keso 1 order big\ndomain app heap 64\ntask main domain app prio 64 acts 1 auto yes sched full entry Main.run\nnative Main.again()I ActivateTask main\n",
+        "keso 1 order big\ndomain app heap 64\ntask main domain app prio 1 acts 1 auto yes sched full entry Main.stop\nnative Main.again()I ActivateTask main\n",
+        "keso 1 order big\ndomain app heap 64\ntask main domain app prio 1 acts 1 auto yes sched full entry Main.run\nnative Main.again()I ActivateTask other\n",
+    ];
+    for config in configs {
+        let ran = build_of(alloc, config, &CLASS, NONE_FAILS)?;
+        assert_eq!(rt; ran.status, Status::Refused);
+        assert_eq!(rt; ran.err.bytes(), b"keso: main.cfg: Later at 0\n".as_slice());
+        assert_eq!(rt; ran.files.get("row.c"), None);
+    }
+    let ran = build_of(alloc, CONFIG, &CLASS[..137], NONE_FAILS)?;
+    assert_eq!(rt; ran.status, Status::Refused);
+    Ok(())
+}
