@@ -1,5 +1,6 @@
 -- Names as texts show them, and the equality of members, which goes by their bytes.
-use Rattle.std.specs.Prelude.{ℕ, ◌+◌, ◌/◌, ◌%◌, Bool, ◌&&◌, not, List, [], ◌∷◌, ◌++◌, flat_map, Option, Some, None, nat_le, nat_lt, nat_eq, if◌then◌else◌, bytes_eq, codes}
+use Rattle.std.specs.Prelude.{ℕ, Bool, ◌&&◌, ◌==◌, not, List, [], ◌∷◌, ◌++◌, flat_map, Option, Some, None, nat_le, if◌then◌else◌, bytes_eq, codes}
+use Rattle.percent_encoding.specs.Percent.{percent_sign, percent_encode_byte}
 use Rattle.osek_core.specs.Bytecode.World.{Shape, Boolean, Byte, Char, Short, Int, Long, Float, Double, Class, Array, Param, Descriptor, Member}
 
 -- JVMS 4.3.2: a field descriptor
@@ -30,15 +31,10 @@ abbrev pub same_member : Member → Member → Bool
 same_member a b =
     bytes_eq a.class b.class && bytes_eq a.name b.name && bytes_eq (descriptor_text a.descriptor) (descriptor_text b.descriptor)
 
--- an upper-case hexadecimal digit
-abbrev pub hex_digit : ℕ → ℕ
-hex_digit n = if nat_lt n 10 then 48 + n else 55 + n
-
--- a byte from `!` to `~` but `%` stands for itself, and another one is `%` and two digits
+-- a byte from `!` to `~` but `%` stands for itself, and another one is `%` and its two upper-case hexadecimal digits
 abbrev pub shown_byte : ℕ → List ℕ
 shown_byte b =
-    if nat_le 33 b && nat_le b 126 && not (nat_eq b 37) then b ∷ []
-    else codes "%" ++ hex_digit (b / 16) ∷ hex_digit (b % 16) ∷ []
+    if (nat_le 0x21 b && nat_le b 0x7E) && not (b == percent_sign) then b ∷ [] else percent_encode_byte b
 
 abbrev pub shown : List ℕ → List ℕ
 shown name = flat_map shown_byte name
