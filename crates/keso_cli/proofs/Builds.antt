@@ -8,7 +8,8 @@ use Rattle.keso_cli.specs.declared.built.Built.{Built}
 use Rattle.keso_cli.specs.declared.compile.Texts.{Texts}
 use Rattle.keso_cli.specs.declared.trouble.Trouble.{Trouble}
 use Rattle.keso_cli.specs.declared.trouble.Trouble.TheVariants.{Usage, CannotRead, Refused, CannotWrite, CannotWriteOutput, NoMemory}
-use Rattle.keso_cli.specs.BuildEnds.{BuildStops, InputSays, IsBuiltFrom, Untouched, first_summary}
+use Rattle.keso_cli.specs.BuildEnds.{BuildStops, InputSays, IsBuiltFrom, Untouched}
+use Rattle.keso_cli.specs.FirstForm.Counts.{first_summary}
 use Rattle.keso_cli.specs.Due.{due, AreTextsOf}
 use Rattle.keso_cli.specs.FirstForm.Fits.{first_form}
 use Rattle.keso_cli.specs.FirstForm.Program.{built_of}
@@ -18,6 +19,7 @@ use Rattle.keso_cli.specs.Left.{Written}
 use Rattle.keso_cli.specs.Seen.{FilesSeen, SinkSeen, TakesPrefix}
 use Rattle.keso_cli.specs.Stops.{CompileStops, WritesStop, PutStops}
 use Rattle.keso_cli.specs.Summary.{summary_text}
+use Rattle.keso_cli.proofs.Headline.All.{headline}
 use Rattle.keso_cli.specs.Texts.{Text, named, texts_of, written}
 
 -- the texts that the code has are those of what was built
@@ -35,17 +37,24 @@ pub record InputIs (config class text bytes : List ℕ) (files : FilesSeen) : Ty
 
 pub input_says : (said : Option (FirstConfig × FirstClass)) (config class text bytes : List ℕ) (files : FilesSeen) → InputIs config class text bytes files
     → first_form text (bytes ∷ []) ≡ said → InputSays said config (class ∷ []) files
-input_says said config class text bytes files input form = by_contents files.contents input.config_read input.class_read where
-  by_contents : (held : Option Contents) → IfSome held (λ files. get files config ≡ Some text) → IfSome held (λ files. get files class ≡ Some bytes)
-      → IfSome held (λ files. (t : List ℕ) × (bs : List (List ℕ)) × (get files config ≡ Some t) × (map (get files) (class ∷ []) ≡ map Some bs) × (first_form t bs ≡ said))
-  by_contents None c k = tt
-  by_contents (Some held) c k = (text, bytes ∷ [], c, ap (λ o. o ∷ []) k, form)
+input_says said config class text bytes files input form =
+    (text, bytes ∷ [], form, by_contents files.contents input.config_read input.class_read) where
+      by_contents : (held : Option Contents) → IfSome held (λ files. get files config ≡ Some text) → IfSome held (λ files. get files class ≡ Some bytes)
+          → IfSome held (λ files. (get files config ≡ Some text) × (map (get files) (class ∷ []) ≡ map Some (bytes ∷ [])))
+      by_contents None c k = tt
+      by_contents (Some held) c k = (c, ap (λ o. o ∷ []) k)
 
 -- what was compiled is what is written for the input
 pub built_from : (first : FirstConfig) (second : FirstClass) (config class text bytes : List ℕ) (files : FilesSeen) → InputIs config class text bytes files
     → first_form text (bytes ∷ []) ≡ Some (first, second) → IsBuiltFrom (built_of first second) config (class ∷ []) files
 built_from first second config class text bytes files input form =
-    record { first = first; second = second; said = input_says (Some (first, second)) config class text bytes files input form; made = refl }
+    record {
+      first = first;
+      second = second;
+      said = input_says (Some (first, second)) config class text bytes files input form;
+      made = refl;
+      headline = headline first second text bytes form;
+    }
 
 pub compile_stops : (trouble : Trouble) (config class base text bytes : List ℕ) (files files' : FilesSeen) (out out' : SinkSeen)
     → InputIs config class text bytes files

@@ -4,3 +4,4 @@ pub mod OneByOne
 pub mod Parameters
 pub mod Troubles
 pub mod Writes
+pub mod Headline

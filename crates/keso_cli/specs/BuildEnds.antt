@@ -7,19 +7,16 @@ use Rattle.kes_text.specs.declared.refusal.Kind.TheVariants.{Later}
 use Rattle.keso_cli.specs.declared.trouble.Trouble.{Trouble}
 use Rattle.keso_cli.specs.declared.trouble.Trouble.TheVariants.{Usage, CannotRead, Refused, CannotWrite, CannotWriteOutput, NoMemory}
 use Rattle.keso_cli.specs.declared.built.Built.{Built}
+use Rattle.keso_cli.specs.Headline.{Headline}
 use Rattle.keso_cli.specs.Texts.{texts_of}
-use Rattle.keso_cli.specs.declared.summary.Summary.{Summary}
 use Rattle.keso_cli.specs.Summary.{summary_text}
 use Rattle.keso_cli.specs.Seen.{FilesSeen, SinkSeen, Takes, TakesPrefix}
 use Rattle.keso_cli.specs.Left.{CannotBeRead, Written, WrittenInPart, WriteFailed}
 use Rattle.keso_cli.specs.declared.config.FirstConfig.{FirstConfig}
 use Rattle.keso_cli.specs.declared.first_class.FirstClass.{FirstClass}
+use Rattle.keso_cli.specs.FirstForm.Counts.{first_summary}
 use Rattle.keso_cli.specs.FirstForm.Fits.{first_form}
 use Rattle.keso_cli.specs.FirstForm.Program.{built_of}
-
--- what the first form counts: one method, no check, and no call of a method
-abbrev pub first_summary : Summary
-first_summary = record { methods = 1; checks_kept = 0; checks_removed = 0; direct_calls = 0 }
 
 -- The input isn't compiled yet.
 abbrev pub later : Refusal
@@ -30,18 +27,19 @@ pub record Untouched (files files' : FilesSeen) (out out' : SinkSeen) : Type 0 w
   pub files_stay : files'.contents ≡ files.contents
   pub out_stays : out'.taken ≡ out.taken
 
--- The configuration and the classes stand in the files, and say this: None where they aren't of the first form.
+-- A configuration and classes say this: None where they aren't of the first form. Where it is told what the files hold,
+-- they are what the files of these names hold.
 abbrev pub InputSays : Option (FirstConfig × FirstClass) → List ℕ → List (List ℕ) → FilesSeen → Type 0
-InputSays said config classes files = IfSome files.contents (λ held.
-    (text : List ℕ) × (bytes : List (List ℕ))
-    × (get held config ≡ Some text) × (map (get held) classes ≡ map Some bytes) × (first_form text bytes ≡ said))
+InputSays said config classes files = (text : List ℕ) × (bytes : List (List ℕ)) × (first_form text bytes ≡ said)
+    × IfSome files.contents (λ held. (get held config ≡ Some text) × (map (get held) classes ≡ map Some bytes))
 
--- What was built is what is written for the input.
+-- What was built is what is written for the input, and keeps the headline.
 pub record IsBuiltFrom (built : Built) (config : List ℕ) (classes : List (List ℕ)) (files : FilesSeen) : Type 0 where
   pub first : FirstConfig
   pub second : FirstClass
   pub said : InputSays (Some (first, second)) config classes files
   pub made : built ≡ built_of first second
+  pub headline : Headline built first second
 
 -- A build made its texts before it wrote the first: this is how far it came.
 abbrev pub StoppedWriting : List ℕ → Built → FilesSeen → FilesSeen → SinkSeen → SinkSeen → Type 0

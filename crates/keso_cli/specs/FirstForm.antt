@@ -3,6 +3,7 @@ pub mod Bytes
 pub mod Class
 pub mod Code
 pub mod Config
+pub mod Counts
 pub mod Descriptors
 pub mod Fits
 pub mod LineViews

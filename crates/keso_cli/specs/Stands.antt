@@ -4,8 +4,9 @@ use Rattle.kes_outside.specs.Count.{Rose}
 use Rattle.kes_text.specs.Complaints.{refusal_text, usage_text, cannot_read_text, cannot_write_text, no_output_text}
 use Rattle.keso_cli.specs.declared.status.Status.{Status}
 use Rattle.keso_cli.specs.declared.status.Status.TheVariants as status
-use Rattle.keso_cli.specs.BuildEnds.{BuildIsDone, InputSays, IsBuiltFrom, StoppedWriting, Untouched, first_summary, later}
+use Rattle.keso_cli.specs.BuildEnds.{BuildIsDone, InputSays, IsBuiltFrom, StoppedWriting, Untouched, later}
 use Rattle.keso_cli.specs.declared.built.Built.{Built}
+use Rattle.keso_cli.specs.FirstForm.Counts.{first_summary}
 use Rattle.keso_cli.specs.Texts.{texts_of}
 use Rattle.keso_cli.specs.Left.{CannotBeRead, Written, WriteFailed}
 use Rattle.keso_cli.specs.Request.{Request, Build}

@@ -1,7 +1,8 @@
 ghost use Rattle.std.specs.Prelude.{◌≡◌, ℕ, ◌≤◌, ◌∷◌, [], ◌++◌, Some, IfOk, IfErr, IfSome, OnOk, codes, string_bytes};
 ghost use Rattle.std.specs.FinMap.{get};
 ghost use Rattle.keso_cli.specs.Due.{due};
-ghost use Rattle.keso_cli.specs.BuildEnds.{BuildIsDone, BuildStops, first_summary};
+ghost use Rattle.keso_cli.specs.BuildEnds.{BuildIsDone, BuildStops};
+ghost use Rattle.keso_cli.specs.FirstForm.Counts.{first_summary};
 ghost use Rattle.keso_cli.specs.Left.{Writes, Written};
 ghost use Rattle.keso_cli.specs.Seen.{files_seen, sink_seen, Takes};
 ghost use Rattle.keso_cli.specs.Stops.{ReadStops, WriteStops, WritesStop, PutStops};

@@ -97,7 +97,10 @@ fn class_in(alloc: Global, file: &File<'_>) -> Result<Option<FirstClass>, NoMemo
     let Some(operations) = code::operations_of(alloc, pool, name, native, &code.bytes)? else {
         return Ok(None);
     };
-    if !is_lawful(file, name, parent) || !code::is_lawful(code.max_stack, operations.as_slice()) {
+    if !is_lawful(file, name, parent)
+        || !code::is_lawful(code.max_stack, operations.as_slice())
+        || !code::is_lawful_size(code.max_stack, code.max_locals, &code.bytes)
+    {
         return Ok(None);
     }
     Ok(Some(FirstClass {

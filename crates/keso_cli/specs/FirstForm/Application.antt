@@ -2,7 +2,7 @@
 use Rattle.std.specs.Prelude.{ℕ, ◌+◌, false, List, [], ◌∷◌, Some, None, codes}
 use Rattle.osek_core.specs.declared.call.Call.TheVariants.{ActivateTask}
 use Rattle.osek_core.specs.declared.tables.Tables.{Tables}
-use Rattle.osek_core.specs.Bytecode.World.{World, Member, Descriptor, Located, Instruction, Shape}
+use Rattle.osek_core.specs.Bytecode.World.{World, ClassFile, Method, Member, Descriptor, Located, Instruction, Shape}
 use Rattle.osek_core.specs.Bytecode.Application.{Application, Whole}
 use Rattle.keso_cli.specs.declared.config.FirstConfig.{FirstConfig}
 use Rattle.keso_cli.specs.declared.first_class.FirstClass.{FirstClass}
@@ -39,23 +39,30 @@ located_from class pc [] = []
 located_from class pc (o ∷ more) =
     record { pc = pc; instruction = instruction_of class o } ∷ located_from class (pc + size_of o) more
 
-abbrev pub world_of : FirstClass → World
-world_of class = record {
+-- ACC_STATIC and ACC_NATIVE, and ACC_STATIC
+abbrev pub native_method : FirstClass → Method
+native_method class = record { name = class.native; descriptor = answers_int; flags = 0x0108; code = None }
+
+abbrev pub entry_method : FirstClass → Method
+entry_method class = record {
+  name = class.entry;
+  descriptor = answers_nothing;
+  flags = 0x0008;
+  code = Some (record { max_stack = class.max_stack; max_locals = class.max_locals; instructions = located_from class 0 class.code });
+}
+
+abbrev pub class_file : FirstClass → ClassFile
+class_file class = record {
   name = class.name;
   super = Some (codes "java/lang/Object");
   interfaces = [];
   flags = 0;
   fields = [];
-  methods =
-      record { name = class.native; descriptor = answers_int; flags = 0x0108; code = None }
-      ∷ record {
-        name = class.entry;
-        descriptor = answers_nothing;
-        flags = 0x0008;
-        code = Some (record { max_stack = class.max_stack; max_locals = class.max_locals; instructions = located_from class 0 class.code });
-      }
-      ∷ [];
-} ∷ []
+  methods = native_method class ∷ entry_method class ∷ [];
+}
+
+abbrev pub world_of : FirstClass → World
+world_of class = class_file class ∷ []
 
 -- the tables have the one task
 unfoldable pub tables_of : FirstConfig → Tables

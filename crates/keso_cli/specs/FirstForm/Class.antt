@@ -4,12 +4,13 @@ use Rattle.std.specs.Int.{w16, w32}
 use Rattle.std.specs.Str.{bytes_eq}
 use Rattle.keso_cli.specs.declared.first_class.entry.Entry.{Entry}
 use Rattle.keso_cli.specs.declared.first_class.file.File.{File}
+use Rattle.keso_cli.specs.declared.first_class.method.Code.{Code}
 use Rattle.keso_cli.specs.declared.first_class.FirstClass.{FirstClass}
 use Rattle.keso_cli.specs.FirstForm.Bytes.{◌>>=◌, number_at, constant_at, begins_with}
 use Rattle.keso_cli.specs.FirstForm.Pool.{pool_at}
 use Rattle.keso_cli.specs.FirstForm.Names.{text, class_name, is_lawful_pool}
 use Rattle.keso_cli.specs.FirstForm.Methods.{method_at, native_and_entry, is_set}
-use Rattle.keso_cli.specs.FirstForm.Code.{is_call, operations_of, is_lawful_code}
+use Rattle.keso_cli.specs.FirstForm.Code.{is_call, operations_of, is_lawful_code, is_lawful_size}
 
 -- magic, minor_version and major_version: the bytes behind them
 abbrev pub header_at : List ℕ → Option (List ℕ)
@@ -57,6 +58,15 @@ abbrev pub is_lawful_declaration : File → List ℕ → List ℕ → Bool
 is_lawful_declaration file name parent =
     is_lawful_pool file.pool && not (is_set file.flags 0x0200) && is_own_name name && bytes_eq parent (codes "java/lang/Object")
 
+-- the class of these names and of the entry's code, if that code is lawful
+abbrev pub class_with : File → List ℕ → List ℕ → List ℕ → List ℕ → Code → Option FirstClass
+class_with file name parent native entry code = do
+  operations ← operations_of (is_call file.pool name native) code.bytes
+  if is_lawful_declaration file name parent && is_lawful_code code.max_stack operations
+      && is_lawful_size code.max_stack code.max_locals (length code.bytes)
+      then Some (record { name = name; native = native; entry = entry; max_stack = code.max_stack; max_locals = code.max_locals; code = operations })
+      else None
+
 unfoldable pub class_in : File → Option FirstClass
 class_in file = do
   name ← class_name file.pool file.this_class
@@ -65,10 +75,7 @@ class_in file = do
   native ← text file.pool methods.0.name
   entry ← text file.pool methods.1.name
   code ← methods.1.code
-  operations ← operations_of (is_call file.pool name native) code.bytes
-  if is_lawful_declaration file name parent && is_lawful_code code.max_stack operations
-      then Some (record { name = name; native = native; entry = entry; max_stack = code.max_stack; max_locals = code.max_locals; code = operations })
-      else None
+  class_with file name parent native entry code
 
 -- the class that the bytes are, if they have the first form
 unfoldable pub class_of : List ℕ → Option FirstClass

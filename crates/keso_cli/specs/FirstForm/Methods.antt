@@ -1,5 +1,5 @@
 -- Methods and their code (JVMS 4.6, 4.7.3), as the first form has them.
-use Rattle.std.specs.Prelude.{ℕ, ◌+◌, List, Option, Some, None, Bool, ◌&&◌, ◌||◌, not, nat_le, is_some, is_none, bit_and, codes, ◌==◌, if◌then◌else◌}
+use Rattle.std.specs.Prelude.{ℕ, ◌+◌, List, Option, Some, None, Bool, ◌&&◌, ◌||◌, not, is_some, is_none, bit_and, codes, ◌==◌, if◌then◌else◌}
 use Rattle.std.specs.Int.{w16, w32}
 use Rattle.std.specs.Str.{bytes_eq}
 use Rattle.keso_cli.specs.declared.first_class.entry.Entry.{Entry}
@@ -8,9 +8,9 @@ use Rattle.keso_cli.specs.declared.first_class.method.Method.{Method}
 use Rattle.keso_cli.specs.FirstForm.Bytes.{◌>>=◌, bytes_at, number_at, constant_at}
 use Rattle.keso_cli.specs.FirstForm.Names.{text, has, is_text}
 
--- from 1 to 65535 bytes of code; the attribute's length counts what follows it (JVMS 4.7.3)
+-- the attribute's length counts what follows it (JVMS 4.7.3)
 abbrev pub is_code_length : ℕ → ℕ → Bool
-is_code_length length count = nat_le 1 count && nat_le count 65535 && (length == count + 12)
+is_code_length length count = length == count + 12
 
 -- Code_attribute, with no exception handlers and no attributes (JVMS 4.7.3)
 unfoldable pub code_at : List Entry → List ℕ → Option (Code × List ℕ)

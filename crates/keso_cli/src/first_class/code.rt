@@ -1,7 +1,7 @@
 //! The code of the entry (JVMS 6.5).
 
-ghost use Rattle.std.specs.Prelude.{◌≡◌, IfOk, position};
-ghost use Rattle.keso_cli.specs.FirstForm.Code.{is_call, call_at, operation_at, operations_of, is_return, returns_at_end, depth_behind, depth_fits, is_lawful_code};
+ghost use Rattle.std.specs.Prelude.{◌≡◌, IfOk, length, position};
+ghost use Rattle.keso_cli.specs.FirstForm.Code.{is_call, call_at, operation_at, operations_of, is_return, returns_at_end, depth_behind, depth_fits, is_lawful_code, is_lawful_size};
 
 use crate::first_class::Op;
 use crate::first_class::bytes::Bytes;
@@ -10,6 +10,8 @@ use crate::first_class::text::Text;
 use kes_text::NoMemory;
 use sqlite_items::Items;
 use std::alloc::Global;
+
+const MAX_CODE_LENGTH: usize = 65535;
 
 const POP: u8 = 0x57;
 
@@ -149,4 +151,12 @@ pub fn is_lawful(max_stack: u16, operations: &[Op]) -> bool
     ensures { result ≡ is_lawful_code max_stack operations.now }
 {
     returns_at_end(operations) && depth_fits(max_stack, operations)
+}
+
+/// Whether there are from 1 to 65,535 bytes of code.
+pub fn is_lawful_size(max_stack: u16, max_locals: u16, code: &Bytes<'_>) -> bool
+    ensures { result ≡ is_lawful_size max_stack max_locals (length code.now) }
+{
+    let count = code.len();
+    1 <= count && count <= MAX_CODE_LENGTH
 }

@@ -32,12 +32,10 @@ const ACC_NATIVE: u16 = 0x0100;
 
 const ACC_ABSTRACT: u16 = 0x0400;
 
-const MAX_CODE_LENGTH: u32 = 65535;
-
 fn is_code_length(length: u32, count: u32) -> bool
     ensures { result ≡ is_code_length length count }
 {
-    1 <= count && count <= MAX_CODE_LENGTH && length == count + 12
+    u64::from(length) == u64::from(count) + 12
 }
 
 #[tactic(auto, unfolding(crate::specs::FirstForm::Methods::code_at))]

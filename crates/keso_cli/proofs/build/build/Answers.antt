@@ -1,7 +1,8 @@
 -- Where the build stops, or that it is done, from what its steps ensure.
 use Rattle.std.proofs.Common.{◌∷◌, [], subst, refl, ◌∙◌, arith}
 use Rattle.std.proofs.lemmas.Result.{err_from_is_err_and, IfErr-weaker, on_ok_weaker}
-use Rattle.keso_cli.specs.BuildEnds.{BuildStops, first_summary}
+use Rattle.keso_cli.specs.BuildEnds.{BuildStops}
+use Rattle.keso_cli.specs.FirstForm.Counts.{first_summary}
 use Rattle.keso_cli.specs.FirstForm.Program.{built_of}
 use Rattle.keso_cli.specs.Left.{Written}
 use Rattle.keso_cli.specs.Seen.{files_seen, sink_seen}

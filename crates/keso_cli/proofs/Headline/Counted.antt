@@ -1,0 +1,35 @@
+-- The four lines count what is reached: one method, and no call of a method with code.
+use Rattle.std.proofs.Common.{◌≡◌, ℕ, ◌+◌, List, [], ◌∷◌, refl, sym, ap, ◌∙◌}
+use Rattle.std.specs.Prelude.{false, fold, is_none, count_by, if◌then◌else◌}
+use Rattle.osek_core.specs.Bytecode.World.{InvokeStatic}
+use Rattle.osek_core.specs.Bytecode.Application.{Application}
+use Rattle.keso_cli.specs.declared.config.FirstConfig.{FirstConfig}
+use Rattle.keso_cli.specs.declared.first_class.FirstClass.{FirstClass}
+use Rattle.keso_cli.specs.declared.first_class.Op.{Op}
+use Rattle.keso_cli.specs.declared.first_class.Op.TheVariants.{Invoke, Pop, Return}
+use Rattle.keso_cli.specs.FirstForm.Application.{application_of, native_member, size_of, located_from}
+use Rattle.keso_cli.specs.FirstForm.Counts.{CountsReached, is_direct, instructions_of, first_summary}
+use Rattle.keso_cli.proofs.Headline.Input.{IsInput}
+
+module _ (config : FirstConfig) (class : FirstClass) (input : IsInput config class) where
+  abbrev source : Application
+  source = application_of config class
+
+  native_is_not : is_direct source (InvokeStatic (native_member class)) ≡ false
+  native_is_not = ap is_none input.service
+
+  none_direct : (pc : ℕ) (code : List Op) → count_by (λ located. is_direct source located.instruction) (located_from class pc code) ≡ 0
+  none_direct pc [] = refl
+  none_direct pc (Invoke ∷ more) =
+      let rest = located_from class (pc + size_of Invoke) more in
+      ap (λ b. fold (λ n located. n + (if is_direct source located.instruction then 1 else 0)) (0 + (if b then 1 else 0)) rest) native_is_not
+      ∙ none_direct (pc + size_of Invoke) more
+  none_direct pc (Pop ∷ more) = none_direct (pc + size_of Pop) more
+  none_direct pc (Return ∷ more) = none_direct (pc + size_of Return) more
+
+  pub counted : CountsReached source first_summary
+  counted = record {
+    methods = refl;
+    direct_calls =
+        sym (ap (λ n. 0 + n) (ap (λ code. count_by (λ located. is_direct source located.instruction) (instructions_of code)) input.code ∙ none_direct 0 class.code));
+  }
