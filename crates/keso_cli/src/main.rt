@@ -18,6 +18,9 @@ mod top;
 mod trouble;
 mod words;
 
+ghost use Rattle.std.specs.Prelude.{◌≡◌, IfErr};
+ghost use Rattle.keso_cli.specs.declared.status.Status.TheVariants.{NoMemory};
+
 use crate::status::Status;
 use crate::top::keso;
 use kes_outside::{HostFiles, HostSink};
@@ -26,7 +29,9 @@ use std::process::ExitCode;
 use std::{env, io};
 
 /// The words behind the program's own name. Words that aren't all UTF-8 are no command, as no words are.
-fn given_words(rt: &(impl env::Env + AllocGlobal)) -> Result<Vec<String>, Status> {
+fn given_words(rt: &(impl env::Env + AllocGlobal)) -> Result<Vec<String>, Status>
+    ensures { IfErr result (λ status. status ≡ NoMemory) }
+{
     match env::args(rt) {
         Ok(words) => Ok(
             words
