@@ -1,0 +1,20 @@
+-- Worked examples of descriptors.
+use Rattle.std.specs.Prelude.{◌≡◌, [], ◌∷◌, Some, None, true, false, codes}
+use Rattle.jnames.specs.declared.shape.Shape.TheVariants as shape
+use Rattle.jnames.specs.Descriptors.{signature_of, method_slots}
+
+-- (I[JLa/B;)V takes an int, an array of long and an a/B, in three slots, and answers nothing
+abbrev pub MethodIsRead : Type 0
+MethodIsRead = (signature_of (codes "(I[JLa/B;)V") ≡ Some (record {
+  is_method = true;
+  parameters = record { shape = shape.Int; name = [] } ∷ record { shape = shape.Array; name = codes "[J" } ∷ record { shape = shape.Class; name = codes "a/B" } ∷ [];
+  answer = None;
+})) × (method_slots (codes "(I[JLa/B;)V") ≡ Some 3)
+
+-- [[La/B; is an array's type, whose name is the whole descriptor
+abbrev pub FieldIsRead : Type 0
+FieldIsRead = signature_of (codes "[[La/B;") ≡ Some (record { is_method = false; parameters = []; answer = Some (record { shape = shape.Array; name = codes "[[La/B;" }) })
+
+-- void is no field's type, a type ends where it ends, and each part of a class's name has a byte
+abbrev pub FaultsAreFound : Type 0
+FaultsAreFound = (signature_of (codes "V") ≡ None) × (signature_of (codes "II") ≡ None) × (signature_of (codes "La//b;") ≡ None) × (signature_of (codes "()") ≡ None) × (signature_of [] ≡ None)

@@ -1,0 +1,6 @@
+pub mod Bytes
+pub mod Descriptors
+pub mod Examples
+pub mod Names
+pub mod Types
+pub mod Width
