@@ -1,0 +1,4 @@
+pub mod Repeating
+pub mod Places
+pub mod Among
+pub mod Checking

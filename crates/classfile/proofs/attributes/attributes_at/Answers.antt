@@ -1,0 +1,18 @@
+use Rattle.std.proofs.Common.{◌-◌, ◌≤◌, arith}
+use Rattle.std.proofs.lemmas.Result.{err_from_is_err_and}
+use Rattle.classfile.specs.Attributes.{attribute_at, attributes_at}
+use Rattle.classfile.proofs.Repeating.{goes_on, ends, done}
+use Rattle.classfile.proofs.attributes.attributes_at.Goals as goal
+
+pub returns-in_err-scan : goal.returns-in_err-scan
+returns-in_err-scan c =
+    let p = err_from_is_err_and c.from_residual-in_err-scan.result c.from_residual-in_err-scan.ensures.1 in
+    rw (p.1, p.2) (ends attribute_at c.in_ok-count.count c.loop.counter c.loop.scan c.in_err-scan.field-0.0 (attributes_at c.args.start) c.loop-test.true c.in_err-scan.ensures c.loop.invariant)
+
+pub loop-preserved : goal.loop-preserved
+loop-preserved c = goes_on attribute_at c.in_ok-count.count c.loop.counter c.loop.scan c.in_ok-scan.scan (attributes_at c.args.start) c.loop-test.true c.in_ok-scan.ensures c.loop.invariant
+
+pub returns : goal.returns
+returns c =
+    let over : c.in_ok-count.count ≤ c.loop.counter = omega arith in
+    done attribute_at c.in_ok-count.count c.loop.counter c.loop.scan (attributes_at c.args.start) over c.loop.invariant

@@ -1,0 +1,10 @@
+pub mod Attributes
+pub mod ClassFile
+pub mod Codes
+pub mod Entries
+pub mod Members
+pub mod Pool
+pub mod Scan
+pub mod Faults
+pub mod Reading
+pub mod Seen

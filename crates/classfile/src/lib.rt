@@ -1,0 +1,30 @@
+//! Class files (JVMS SE 8, 4.1 to 4.7).
+#![tactic(auto)]
+
+mod access;
+mod attributes;
+mod checks;
+mod class;
+mod codes;
+mod entries;
+mod faults;
+mod member;
+mod members;
+#[cfg(test)]
+mod motor;
+mod names;
+mod pool;
+mod reading;
+mod rows;
+mod scan;
+mod seen;
+mod slice;
+#[cfg(test)]
+mod tests;
+mod text;
+mod uses;
+
+pub use access::Access;
+pub use class::{Class, Code, Field, Method};
+pub use member::{Constant, Member, MemberKind};
+pub use reading::read_class;

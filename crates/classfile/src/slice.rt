@@ -1,0 +1,31 @@
+ghost use Rattle.std.specs.Prelude.{◌≡◌};
+
+use std::marker::Model;
+
+/// A part of a class file, which contracts see as its bytes.
+#[derive(Drop)]
+pub struct Slice<'a> {
+    bytes: &'a [u8],
+}
+
+impl<'a> Model for Slice<'a> {
+    ghost use Rattle.std.specs.Prelude.{ℕ, List};
+
+    ghost Value = { List ℕ };
+
+    ghost view = { λ s. s.bytes.now };
+}
+
+impl<'a> Slice<'a> {
+    pub fn new(bytes: &'a [u8]) -> Slice<'a>
+        ensures { result ≡ bytes.now }
+    {
+        Slice { bytes }
+    }
+
+    pub fn get(&self) -> &'a [u8]
+        ensures { result.now ≡ self.now }
+    {
+        self.bytes
+    }
+}
