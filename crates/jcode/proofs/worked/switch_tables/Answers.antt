@@ -1,0 +1,20 @@
+use Rattle.std.proofs.Common.{refl}
+use Rattle.jcode.specs.Opcodes.{opcodes}
+use Rattle.jcode.specs.Operands.{immediate_at, local_at, increment_at, branch_at, int_constant_at, long_constant_at, entry_at, interface_call_at, array_type_at}
+use Rattle.jcode.specs.Switches.{case_at, table_at, bounded_table_at, keys_at, table_switch_at, pair_at, pairs_at, rising_pairs_at, lookup_switch_at}
+use Rattle.jcode.specs.Instructions.{wide_at, operands_at, instruction_at}
+use Rattle.jcode.specs.Code.{next_at, instructions_from}
+use Rattle.jcode.specs.Decoded.{decoded}
+use Rattle.jcode.proofs.worked.switch_tables.Goals as goal
+
+pub returns-clause-tables : goal.returns-clause-tables
+unfolding opcodes immediate_at local_at increment_at branch_at int_constant_at long_constant_at entry_at interface_call_at array_type_at case_at table_at bounded_table_at keys_at table_switch_at pair_at pairs_at rising_pairs_at lookup_switch_at wide_at operands_at instruction_at next_at instructions_from decoded
+returns-clause-tables c = (refl, refl, refl, refl)
+
+pub returns-clause-pairs : goal.returns-clause-pairs
+unfolding opcodes immediate_at local_at increment_at branch_at int_constant_at long_constant_at entry_at interface_call_at array_type_at case_at table_at bounded_table_at keys_at table_switch_at pair_at pairs_at rising_pairs_at lookup_switch_at wide_at operands_at instruction_at next_at instructions_from decoded
+returns-clause-pairs c = (refl, refl)
+
+pub returns-clause-wrong : goal.returns-clause-wrong
+unfolding opcodes immediate_at local_at increment_at branch_at int_constant_at long_constant_at entry_at interface_call_at array_type_at case_at table_at bounded_table_at keys_at table_switch_at pair_at pairs_at rising_pairs_at lookup_switch_at wide_at operands_at instruction_at next_at instructions_from decoded
+returns-clause-wrong c = (refl, refl, refl, refl, refl, refl)
