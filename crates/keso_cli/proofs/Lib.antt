@@ -1,4 +1,5 @@
 pub mod Builds
+pub mod Complete
 pub mod ConfigWords
 pub mod OneByOne
 pub mod Parameters

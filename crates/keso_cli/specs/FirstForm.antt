@@ -10,6 +10,7 @@ pub mod LineViews
 pub mod Lines
 pub mod Methods
 pub mod Names
+pub mod Operands
 pub mod Pool
 pub mod Program
 pub mod Words

@@ -1,6 +1,7 @@
 pub mod Asked
 pub mod BuildEnds
 pub mod CommandEnds
+pub mod Complete
 pub mod Due
 pub mod ExitCode
 pub mod FirstForm

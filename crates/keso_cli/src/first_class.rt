@@ -9,6 +9,7 @@ mod code;
 mod descriptor;
 mod entry;
 mod file;
+mod held;
 mod method;
 mod pool;
 #[cfg(test)]
@@ -22,13 +23,29 @@ use sqlite_items::Items;
 use std::alloc::Global;
 use text::Text;
 
-/// An instruction of the entry's code.
+/// What an instruction of the entry's code does (JVMS 6.5).
 #[derive(Clone, Copy, Debug, PartialEq, Eq)]
 pub enum Op {
+    /// Pushes the int of these 32 bits.
+    Const(u32),
+    /// Pushes the int in the local of this slot.
+    Load(u16),
+    /// Pops an int into the local of this slot.
+    Store(u16),
+    Add,
+    Sub,
+    Mul,
     /// Calls the native method, and pushes what it answers.
     Invoke,
     Pop,
     Return,
+}
+
+/// An instruction, and how many bytes of operands stand behind its opcode.
+#[derive(Clone, Copy, Debug, PartialEq, Eq)]
+pub struct Spelled {
+    pub op: Op,
+    pub operands: u8,
 }
 
 /// What a class of the first form has. Names are bytes of the class file.
@@ -41,7 +58,7 @@ pub struct FirstClass {
     pub entry: Items<u8>,
     pub max_stack: u16,
     pub max_locals: u16,
-    pub code: Items<Op>,
+    pub code: Items<Spelled>,
 }
 
 const ACC_INTERFACE: u16 = 0x0200;
@@ -98,7 +115,12 @@ fn class_in(alloc: Global, file: &File<'_>) -> Result<Option<FirstClass>, NoMemo
         return Ok(None);
     };
     if !is_lawful(file, name, parent)
-        || !code::is_lawful(code.max_stack, operations.as_slice())
+        || !code::is_lawful(
+            alloc,
+            code.max_stack,
+            code.max_locals,
+            operations.as_slice(),
+        )?
         || !code::is_lawful_size(code.max_stack, code.max_locals, &code.bytes)
     {
         return Ok(None);

@@ -1,5 +1,6 @@
 ghost use Rattle.std.specs.Prelude.{IfErr, OnOk, map, string_bytes};
 ghost use Rattle.keso_cli.specs.CommandEnds.{CommandIsDone, CommandStops};
+ghost use Rattle.keso_cli.specs.Complete.{IsComplete};
 ghost use Rattle.keso_cli.specs.Request.{request_of};
 ghost use Rattle.keso_cli.specs.Seen.{files_seen, sink_seen};
 ghost use Rattle.keso_cli.specs.Stands.{Stands};
@@ -42,7 +43,18 @@ pub fn keso<F: Files, O: Sink, E: Sink>(
     out: &mut O,
     err: &mut E,
 ) -> Status
-    ensures { Stands result (request_of (map string_bytes words.now))
+    ensures stands { Stands result (request_of (map string_bytes words.now))
+        (record {
+          files = files_seen F.contents F.faults files.old;
+          out = sink_seen O.taken O.faults out.old;
+          err = sink_seen E.taken E.faults err.old;
+        })
+        (record {
+          files = files_seen F.contents F.faults files.new;
+          out = sink_seen O.taken O.faults out.new;
+          err = sink_seen E.taken E.faults err.new;
+        }) }
+    ensures complete { IsComplete result (request_of (map string_bytes words.now))
         (record {
           files = files_seen F.contents F.faults files.old;
           out = sink_seen O.taken O.faults out.old;

@@ -1,32 +1,30 @@
 -- What a class of the first form says: its code ends, keeps to its stack, and is small.
-use Rattle.std.proofs.Common.{◌≡◌, ◌≤◌, ℕ, zero, suc, Bool, true, false, List, [], ◌∷◌, length, Option, Some, None, refl, sym, ap, subst, arith}
-use Rattle.std.specs.Prelude.{◌<◌, unwrap_or, ◌&&◌, ◌==◌, ◌+◌, position, if◌then◌else◌}
+use Rattle.std.proofs.Common.{◌∙◌, ◌≡◌, ◌≤◌, ℕ, zero, suc, Bool, true, false, List, [], ◌∷◌, length, Option, Some, None, refl, ap, subst, arith}
+use Rattle.std.specs.Prelude.{not, ◌<◌, unwrap_or, ◌&&◌, ◌==◌, ◌+◌, position, if◌then◌else◌}
 use Rattle.std.proofs.Math.ListN.{get_or}
 use Rattle.std.proofs.lemmas.List.Quantifiers.{position-Some}
 use Rattle.std.proofs.lemmas.Bool.Decides.{nat_tests}
 use Rattle.keso_cli.specs.declared.first_class.FirstClass.{FirstClass}
-use Rattle.keso_cli.specs.declared.first_class.Op.{Op}
-use Rattle.keso_cli.specs.declared.first_class.Op.TheVariants.{Invoke, Pop, Return}
+use Rattle.keso_cli.specs.declared.first_class.Op.TheVariants.{Pop}
+use Rattle.keso_cli.specs.declared.first_class.Spelled.{Spelled}
 use Rattle.keso_cli.specs.declared.first_class.file.File.{File}
 use Rattle.keso_cli.specs.declared.first_class.method.Code.{Code}
 use Rattle.keso_cli.specs.FirstForm.Bytes.{◌>>=◌}
 use Rattle.keso_cli.specs.FirstForm.Names.{text, class_name}
 use Rattle.keso_cli.specs.FirstForm.Methods.{native_and_entry}
-use Rattle.keso_cli.specs.FirstForm.Code.{is_call, operation_at, operations_at, operations_of, is_return, returns_at_end, depth_fits, is_lawful_code, is_lawful_size}
+use Rattle.keso_cli.specs.FirstForm.Code.{is_call, operation_at, operations_at, operations_of, is_return, returns_at_end, is_lawful_code, is_lawful_size}
+use Rattle.keso_cli.specs.FirstForm.Operands.{runs}
 use Rattle.keso_cli.specs.FirstForm.Class.{file_at, is_lawful_declaration, class_with, class_in, class_of}
 use Rattle.keso_cli.proofs.Headline.Code.{ends, has_true}
-use Rattle.keso_cli.proofs.Headline.Inversion.{none_is_some, true_is_false, if_some}
+use Rattle.keso_cli.proofs.Headline.Input.{nothing_held}
+use Rattle.keso_cli.proofs.Headline.Inversion.{none_is_some, both_true, if_some}
 
 pub bind_some : {A B : Type 0} (f : A → Option B) (o : Option A) (y : B) → (o >>= f) ≡ Some y → (x : A) × (o ≡ Some x) × (f x ≡ Some y)
 bind_some f None y e = absurd (none_is_some y e)
 bind_some f (Some x) y e = (x, refl, e)
 
-pub both_true : (a b : Bool) → a && b ≡ true → (a ≡ true) × (b ≡ true)
-both_true true b e = (refl, e)
-both_true false b e = absurd (true_is_false (sym e))
-
 -- at most one instruction for each byte
-many_bytes : (calls : ℕ → Bool) (n : ℕ) (bytes : List ℕ) (code : List Op) → operations_at calls n bytes ≡ Some code → length code ≤ n
+many_bytes : (calls : ℕ → Bool) (n : ℕ) (bytes : List ℕ) (code : List Spelled) → operations_at calls n bytes ≡ Some code → length code ≤ n
 unfolding operations_at
 many_bytes calls n [] code e = subst (λ c. length c ≤ n) (ap (λ o. unwrap_or o code) e) (omega arith)
 many_bytes calls zero (b ∷ bytes) code e = absurd (none_is_some code e)
@@ -38,7 +36,7 @@ many_bytes calls (suc n) (b ∷ bytes) code e =
 
 pub record CodeFits (class : FirstClass) : Type 0 where
   pub returns : returns_at_end class.code ≡ true
-  pub fits : depth_fits class.max_stack 0 class.code ≡ true
+  pub fits : runs class.max_stack (nothing_held class) class.code ≡ true
   pub stack : class.max_stack ≤ 65535
   pub locals : class.max_locals ≤ 65535
   pub count : length class.code ≤ 65535
@@ -48,17 +46,17 @@ sizes stack locals count e = (grind (arith, nat_tests, e), grind (arith, nat_tes
 
 with_fits : (file : File) (name parent native entry : List ℕ) (code : Code) (class : FirstClass) → class_with file name parent native entry code ≡ Some class → CodeFits class
 with_fits file name parent native entry code class e =
-    let operations = bind_some (λ operations. if is_lawful_declaration file name parent && is_lawful_code code.max_stack operations
+    let operations = bind_some (λ operations. if is_lawful_declaration file name parent && is_lawful_code code.max_stack code.max_locals operations
     && is_lawful_size code.max_stack code.max_locals (length code.bytes)
     then Some (record { name = name; native = native; entry = entry; max_stack = code.max_stack; max_locals = code.max_locals; code = operations })
     else None) (operations_of (is_call file.pool name native) code.bytes) class e in
     let made : FirstClass = record { name = name; native = native; entry = entry; max_stack = code.max_stack; max_locals = code.max_locals; code = operations.0 } in
-    let lawful_code = is_lawful_code code.max_stack operations.0 in
+    let lawful_code = is_lawful_code code.max_stack code.max_locals operations.0 in
     let lawful_size = is_lawful_size code.max_stack code.max_locals (length code.bytes) in
     let lawful = if_some (is_lawful_declaration file name parent && lawful_code && lawful_size) (Some made) class operations.2 in
     let all = both_true (is_lawful_declaration file name parent && lawful_code) lawful_size lawful.0 in
     let parts = both_true (is_lawful_declaration file name parent) lawful_code all.0 in
-    let code_is = both_true (returns_at_end operations.0) (depth_fits code.max_stack 0 operations.0) parts.1 in
+    let code_is = both_true (returns_at_end operations.0) (runs code.max_stack (nothing_held made) operations.0) parts.1 in
     let size = sizes code.max_stack code.max_locals (length code.bytes) all.1 in
     let many = many_bytes (is_call file.pool name native) (length code.bytes) code.bytes operations.0 operations.1 in
     subst CodeFits (ap (λ o. unwrap_or o class) lawful.1)
@@ -84,20 +82,18 @@ unfolding class_of
 class_fits bytes class e = let file = bind_some class_in (file_at bytes) class e in in_fits file.0 class file.2
 
 -- the first return is the last instruction
-ends_by : (code : List Op) (place : ℕ) → place + 1 ≡ length code → is_return (get_or code place Pop) ≡ true → ((k : ℕ) → k < place → is_return (get_or code k Pop) ≡ false) → ends code ≡ true
-ends_by [] place e last earlier = absurd (omega (arith, e))
-ends_by (Return ∷ []) place e last earlier = refl
-ends_by (Invoke ∷ []) zero e last earlier = absurd (true_is_false (sym last))
-ends_by (Invoke ∷ []) (suc place) e last earlier = absurd (omega (arith, e))
-ends_by (Pop ∷ []) zero e last earlier = absurd (true_is_false (sym last))
-ends_by (Pop ∷ []) (suc place) e last earlier = absurd (omega (arith, e))
-ends_by (o ∷ next ∷ more) zero e last earlier = absurd (omega (arith, e))
-ends_by (Return ∷ next ∷ more) (suc place) e last earlier = absurd (true_is_false (earlier 0 (omega arith)))
-ends_by (Invoke ∷ next ∷ more) (suc place) e last earlier = ends_by (next ∷ more) place (omega (arith, e)) last (λ k lt. earlier (suc k) (omega (arith, lt)))
-ends_by (Pop ∷ next ∷ more) (suc place) e last earlier = ends_by (next ∷ more) place (omega (arith, e)) last (λ k lt. earlier (suc k) (omega (arith, lt)))
+ends_by : (code : List Spelled) (place : ℕ) (none : Spelled) → place + 1 ≡ length code → is_return (get_or code place none).op ≡ true → ((k : ℕ) → k < place → is_return (get_or code k none).op ≡ false) → ends code ≡ true
+ends_by [] place none e last earlier = absurd (omega (arith, e))
+ends_by (s ∷ []) zero none e last earlier = last
+ends_by (s ∷ []) (suc place) none e last earlier = absurd (omega (arith, e))
+ends_by (s ∷ next ∷ more) zero none e last earlier = absurd (omega (arith, e))
+ends_by (s ∷ next ∷ more) (suc place) none e last earlier =
+    ap (λ b. not b && ends (next ∷ more)) (earlier 0 (omega arith))
+    ∙ ends_by (next ∷ more) place none (omega (arith, e)) last (λ k lt. earlier (suc k) (omega (arith, lt)))
 
-pub ends_from : (code : List Op) → returns_at_end code ≡ true → ends code ≡ true
+pub ends_from : (code : List Spelled) → returns_at_end code ≡ true → ends code ≡ true
 ends_from code e =
-    let first = has_true (λ place. place + 1 == length code) (position is_return code) e in
-    let at = position-Some is_return code first.0 Pop first.1 in
-    ends_by code first.0 (grind (arith, nat_tests, first.2)) at.1 at.2
+    let none : Spelled = record { op = Pop; operands = 0 } in
+    let first = has_true (λ place. place + 1 == length code) (position (λ s. is_return s.op) code) e in
+    let at = position-Some (λ s. is_return s.op) code first.0 none first.1 in
+    ends_by code first.0 none (grind (arith, nat_tests, first.2)) at.1 at.2

@@ -6,8 +6,9 @@ use Rattle.osek_core.specs.Bytecode.Application.{Application}
 use Rattle.keso_cli.specs.declared.config.FirstConfig.{FirstConfig}
 use Rattle.keso_cli.specs.declared.first_class.FirstClass.{FirstClass}
 use Rattle.keso_cli.specs.declared.first_class.Op.{Op}
-use Rattle.keso_cli.specs.declared.first_class.Op.TheVariants.{Invoke, Pop, Return}
-use Rattle.keso_cli.specs.FirstForm.Application.{application_of, native_member, size_of, located_from}
+use Rattle.keso_cli.specs.declared.first_class.Spelled.{Spelled}
+use Rattle.keso_cli.specs.declared.first_class.Op.TheVariants.{Const, Load, Store, Add, Sub, Mul, Invoke, Pop, Return}
+use Rattle.keso_cli.specs.FirstForm.Application.{application_of, instruction_of, native_member, size_of, located_from}
 use Rattle.keso_cli.specs.FirstForm.Counts.{CountsReached, is_direct, instructions_of, first_summary}
 use Rattle.keso_cli.proofs.Headline.Input.{IsInput}
 
@@ -18,14 +19,23 @@ module _ (config : FirstConfig) (class : FirstClass) (input : IsInput config cla
   native_is_not : is_direct source (InvokeStatic (native_member class)) ≡ false
   native_is_not = ap is_none input.service
 
-  none_direct : (pc : ℕ) (code : List Op) → count_by (λ located. is_direct source located.instruction) (located_from class pc code) ≡ 0
+  op_not_direct : (o : Op) → is_direct source (instruction_of class o) ≡ false
+  op_not_direct (Const bits) = refl
+  op_not_direct (Load slot) = refl
+  op_not_direct (Store slot) = refl
+  op_not_direct Add = refl
+  op_not_direct Sub = refl
+  op_not_direct Mul = refl
+  op_not_direct Invoke = native_is_not
+  op_not_direct Pop = refl
+  op_not_direct Return = refl
+
+  none_direct : (pc : ℕ) (code : List Spelled) → count_by (λ located. is_direct source located.instruction) (located_from class pc code) ≡ 0
   none_direct pc [] = refl
-  none_direct pc (Invoke ∷ more) =
-      let rest = located_from class (pc + size_of Invoke) more in
-      ap (λ b. fold (λ n located. n + (if is_direct source located.instruction then 1 else 0)) (0 + (if b then 1 else 0)) rest) native_is_not
-      ∙ none_direct (pc + size_of Invoke) more
-  none_direct pc (Pop ∷ more) = none_direct (pc + size_of Pop) more
-  none_direct pc (Return ∷ more) = none_direct (pc + size_of Return) more
+  none_direct pc (s ∷ more) =
+      let rest = located_from class (pc + size_of s) more in
+      ap (λ b. fold (λ n located. n + (if is_direct source located.instruction then 1 else 0)) (0 + (if b then 1 else 0)) rest) (op_not_direct s.op)
+      ∙ none_direct (pc + size_of s) more
 
   pub counted : CountsReached source first_summary
   counted = record {

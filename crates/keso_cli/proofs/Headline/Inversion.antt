@@ -1,5 +1,5 @@
 -- What stands where a piece of a definition has answered.
-use Rattle.std.proofs.Common.{◌≡◌, ◌≤◌, ℕ, Bool, true, false, Option, Some, None, refl, ap, arith}
+use Rattle.std.proofs.Common.{◌≡◌, ◌≤◌, ℕ, Bool, true, false, Option, Some, None, refl, ap, arith, sym}
 use Rattle.std.specs.Prelude.{List, is_some, unwrap_or, bytes_eq, nat_le, ◌&&◌, if◌then◌else◌}
 use Rattle.std.specs.Option.{option_and_then}
 use Rattle.std.proofs.lemmas.Slice.Eq.{bytes_eq-Decides}
@@ -11,6 +11,10 @@ none_is_some y e = grind (arith, ap is_some e)
 
 pub true_is_false : true ≡ false → ⊥
 true_is_false e = grind (arith, e)
+
+pub both_true : (a b : Bool) → a && b ≡ true → (a ≡ true) × (b ≡ true)
+both_true true b e = (refl, e)
+both_true false b e = absurd (true_is_false (sym e))
 
 pub bytes_eq_same : (xs : List ℕ) → bytes_eq xs xs ≡ true
 bytes_eq_same xs = (bytes_eq-Decides xs xs).1 refl

@@ -1,5 +1,6 @@
 -- The application that a configuration and a class of the first form describe, as the bytecode run takes it.
 use Rattle.std.specs.Prelude.{ℕ, ◌+◌, false, List, [], ◌∷◌, Some, None, codes}
+use Rattle.std.specs.Int.{w32, cast_signed}
 use Rattle.osek_core.specs.declared.call.Call.TheVariants.{ActivateTask}
 use Rattle.osek_core.specs.declared.tables.Tables.{Tables}
 use Rattle.osek_core.specs.Bytecode.World.{World, ClassFile, Method, Member, Descriptor, Located, Instruction, Shape}
@@ -7,6 +8,7 @@ use Rattle.osek_core.specs.Bytecode.Application.{Application, Whole}
 use Rattle.keso_cli.specs.declared.config.FirstConfig.{FirstConfig}
 use Rattle.keso_cli.specs.declared.first_class.FirstClass.{FirstClass}
 use Rattle.keso_cli.specs.declared.first_class.Op.{Op}
+use Rattle.keso_cli.specs.declared.first_class.Spelled.{Spelled}
 use Rattle.keso_cli.specs.declared.first_class.Op.TheVariants as op
 
 -- ()I and ()V
@@ -22,22 +24,27 @@ native_member class = record { class = class.name; name = class.native; descript
 abbrev pub entry_member : FirstClass → Member
 entry_member class = record { class = class.name; name = class.entry; descriptor = answers_nothing }
 
--- an instruction, and how many bytes it has (JVMS 6.5)
+-- JVMS 6.5
 abbrev pub instruction_of : FirstClass → Op → Instruction
+instruction_of class (op.Const bits) = Instruction.Const4 (cast_signed w32 bits)
+instruction_of class (op.Load slot) = Instruction.LoadI slot
+instruction_of class (op.Store slot) = Instruction.StoreI slot
+instruction_of class op.Add = Instruction.Add false
+instruction_of class op.Sub = Instruction.Sub false
+instruction_of class op.Mul = Instruction.Mul false
 instruction_of class op.Invoke = Instruction.InvokeStatic (native_member class)
 instruction_of class op.Pop = Instruction.Pop
 instruction_of class op.Return = Instruction.Return
 
-abbrev pub size_of : Op → ℕ
-size_of op.Invoke = 3
-size_of op.Pop = 1
-size_of op.Return = 1
+-- its opcode, and its operands
+abbrev pub size_of : Spelled → ℕ
+size_of s = 1 + s.operands
 
 -- the instructions one behind another, from this offset on
-abbrev pub located_from : FirstClass → ℕ → List Op → List Located
+abbrev pub located_from : FirstClass → ℕ → List Spelled → List Located
 located_from class pc [] = []
-located_from class pc (o ∷ more) =
-    record { pc = pc; instruction = instruction_of class o } ∷ located_from class (pc + size_of o) more
+located_from class pc (s ∷ more) =
+    record { pc = pc; instruction = instruction_of class s.op } ∷ located_from class (pc + size_of s) more
 
 -- ACC_STATIC and ACC_NATIVE, and ACC_STATIC
 abbrev pub native_method : FirstClass → Method

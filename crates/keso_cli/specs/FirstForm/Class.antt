@@ -62,7 +62,7 @@ is_lawful_declaration file name parent =
 abbrev pub class_with : File → List ℕ → List ℕ → List ℕ → List ℕ → Code → Option FirstClass
 class_with file name parent native entry code = do
   operations ← operations_of (is_call file.pool name native) code.bytes
-  if is_lawful_declaration file name parent && is_lawful_code code.max_stack operations
+  if is_lawful_declaration file name parent && is_lawful_code code.max_stack code.max_locals operations
       && is_lawful_size code.max_stack code.max_locals (length code.bytes)
       then Some (record { name = name; native = native; entry = entry; max_stack = code.max_stack; max_locals = code.max_locals; code = operations })
       else None

@@ -17,6 +17,10 @@ const MAIN: [u8; 138] = [
     0x00, 0x0a, 0x57, 0xb1, 0x00, 0x00, 0x00, 0x00, 0x00, 0x00,
 ];
 
+fn spelled(op: Op, operands: u8) -> Spelled {
+    Spelled { op, operands }
+}
+
 /// One byte changed, and still of the form.
 const LAWFUL: [(usize, u8, &str); 8] = [
     (7, 50, "version 50"),
@@ -109,7 +113,12 @@ fn example(rt: HostRuntime) -> Result<(), Fail> {
     assert_eq!(rt; class.max_locals, 0);
     assert_eq!(rt;
         class.code.as_slice(),
-        [Op::Invoke, Op::Pop, Op::Return].as_slice()
+        [
+            spelled(Op::Invoke, 2),
+            spelled(Op::Pop, 0),
+            spelled(Op::Return, 0)
+        ]
+        .as_slice()
     );
     Ok(())
 }
@@ -287,5 +296,85 @@ fn pop_of_nothing(rt: HostRuntime) -> Result<(), Fail> {
     bytes.extend_from_slice(&[0x57, 0xb8, 0, 10, 0xb1])?;
     bytes.extend_from_slice(&MAIN[132..])?;
     assert!(rt; read_class(rt.alloc(), &bytes)?.is_none());
+    Ok(())
+}
+
+/// The example with this code.
+fn with_code(
+    alloc: Global,
+    max_stack: u8,
+    max_locals: u8,
+    code: &[u8],
+) -> Result<Vec<u8>, NoMemory> {
+    let count = (code.len() % 200) as u8;
+    let mut bytes = MAIN[..115].to_vec(alloc)?;
+    bytes.extend_from_slice(&[
+        0,
+        0,
+        0,
+        12 + count,
+        0,
+        max_stack,
+        0,
+        max_locals,
+        0,
+        0,
+        0,
+        count,
+    ])?;
+    bytes.extend_from_slice(code)?;
+    bytes.extend_from_slice(&MAIN[132..])?;
+    Ok(bytes)
+}
+
+/// 3 goes into local 0, -128 + 3 into local 1; then (-256 - -125) * 2 is dropped.
+const ARITHMETIC: [u8; 18] = [
+    0x06, 0x3b, 0x10, 0x80, 0x1a, 0x60, 0x36, 0x01, 0x11, 0xff, 0x00, 0x15, 0x01, 0x64, 0x05, 0x68,
+    0x57, 0xb1,
+];
+
+/// Code that isn't of the form, with two operands and one local.
+const UNLAWFUL_CODE: [(&[u8], &str); 9] = [
+    (&[0x1a, 0x57, 0xb1], "a local that was never stored"),
+    (&[0x03, 0x3c, 0xb1], "a slot past the last"),
+    (&[0x03, 0x60, 0x57, 0xb1], "a sum of one operand"),
+    (&[0x03, 0x03, 0x03, 0xb1], "three operands"),
+    (&[0x3b, 0xb1], "a store of nothing"),
+    (&[0xb1, 0xb1], "a return in the middle"),
+    (&[0x03, 0x57], "no return"),
+    (&[0x10], "an operand cut off"),
+    (&[0x09, 0x58, 0xb1], "a long"),
+];
+
+#[test]
+fn arithmetic(rt: HostRuntime) -> Result<(), Fail> {
+    let class = read_class(rt.alloc(), &with_code(rt.alloc(), 2, 2, &ARITHMETIC)?)?.ok_or(
+        "the form",
+    )?;
+    assert_eq!(rt;
+        class.code.as_slice(),
+        [
+            spelled(Op::Const(3), 0),
+            spelled(Op::Store(0), 0),
+            spelled(Op::Const(0xFFFF_FF80), 1),
+            spelled(Op::Load(0), 0),
+            spelled(Op::Add, 0),
+            spelled(Op::Store(1), 1),
+            spelled(Op::Const(0xFFFF_FF00), 2),
+            spelled(Op::Load(1), 1),
+            spelled(Op::Sub, 0),
+            spelled(Op::Const(2), 0),
+            spelled(Op::Mul, 0),
+            spelled(Op::Pop, 0),
+            spelled(Op::Return, 0)
+        ]
+        .as_slice()
+    );
+    for (code, what) in UNLAWFUL_CODE {
+        assert!(rt;
+            read_class(rt.alloc(), &with_code(rt.alloc(), 2, 1, code)?)?.is_none(),
+            "{what}"
+        );
+    }
     Ok(())
 }

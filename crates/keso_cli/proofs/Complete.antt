@@ -1,0 +1,70 @@
+-- What stands after each status makes the program complete.
+use Rattle.std.proofs.Common.{◌≡◌, inl, inr, ℕ, List, [], ◌∷◌, Option, Some, None, IfSome, IsSomeAnd, map, refl, sym, ap, ◌∙◌, subst, arith}
+use Rattle.std.specs.Prelude.{All, unwrap_or, slice_index_or, drop, length}
+use Rattle.std.specs.FinMap.{get}
+use Rattle.std.proofs.lemmas.List.Elements.{All-nil, All-cons}
+use Rattle.kes_outside.specs.Contents.{Contents}
+use Rattle.keso_cli.specs.declared.status.Status.{Status}
+use Rattle.keso_cli.specs.declared.status.Status.TheVariants as status
+use Rattle.keso_cli.specs.BuildEnds.{InputSays}
+use Rattle.keso_cli.specs.Complete.{IsGiven, NoneRose, IsComplete}
+use Rattle.keso_cli.specs.FirstForm.Fits.{first_form}
+use Rattle.keso_cli.specs.Request.{Request, Build}
+use Rattle.keso_cli.specs.Stands.{Outside, Stands, ReadFaultStands}
+use Rattle.keso_cli.proofs.Headline.Inversion.{none_is_some}
+
+some_back : (xs : List (List ℕ)) → map (λ o. unwrap_or o []) (map Some xs) ≡ xs
+some_back [] = refl
+some_back (x ∷ xs) = ap (λ ys. x ∷ ys) (some_back xs)
+
+some_same : (xs ys : List (List ℕ)) → map Some xs ≡ map Some ys → xs ≡ ys
+some_same xs ys e = sym (some_back xs) ∙ ap (map (λ o. unwrap_or o [])) e ∙ some_back ys
+
+-- what was refused wasn't of the form
+not_refused : (config : List ℕ) (classes : List (List ℕ)) (before : Outside) → IsGiven config classes before.files → InputSays None config classes before.files → ⊥
+not_refused config classes before given says =
+    let read = subst (λ o. IfSome o (λ held. (get held config ≡ Some says.0) × (map (get held) classes ≡ map Some says.1))) given.told says.3 in
+    let text : says.0 ≡ given.text = ap (λ o. unwrap_or o []) (sym read.0 ∙ given.config_is) in
+    let bytes : says.1 ≡ given.bytes = some_same says.1 given.bytes (sym read.1 ∙ given.classes_are) in
+    let none : first_form given.text given.bytes ≡ None =
+    ap (λ t. first_form t given.bytes) (sym text) ∙ ap (first_form says.0) (sym bytes) ∙ says.2 in
+    given.of_form none
+
+abbrev Holds : Contents → List ℕ → Type 0
+Holds held name = (text : List ℕ) × (get held name ≡ Some text)
+
+head_is : (held : Contents) (x : List ℕ) (xs : List (List ℕ)) (y : List ℕ) (ys : List (List ℕ)) → map (get held) (x ∷ xs) ≡ map Some (y ∷ ys) → (get held x ≡ Some y) × (map (get held) xs ≡ map Some ys)
+head_is held x xs y ys e = (ap (λ l. slice_index_or l 0 None) e, ap (λ l. drop 1 l) e)
+
+all_held : (held : Contents) (xs ys : List (List ℕ)) → map (get held) xs ≡ map Some ys → All (Holds held) xs
+all_held held [] ys e = All-nil (Holds held)
+all_held held (x ∷ xs) [] e = absurd (let n = ap length e in omega (arith, n))
+all_held held (x ∷ xs) (y ∷ ys) e =
+    let parts = head_is held x xs y ys e in
+    All-cons (Holds held) x xs (y, parts.0) (all_held held xs ys parts.1)
+
+-- what couldn't be read was counted
+not_missing : (config : List ℕ) (classes : List (List ℕ)) (before after : Outside) → IsGiven config classes before.files → NoneRose before after → ReadFaultStands (config ∷ classes) before after → ⊥
+not_missing config classes before after given none s =
+    elim s.cause [
+      | inl rose ↦ none.files rose
+      | inr missing ↦
+          let gone = subst (λ o. IsSomeAnd o (λ files. get files s.name ≡ None)) given.told missing in
+          let all = All-cons (Holds given.held) config classes (given.text, given.config_is) (all_held given.held classes given.bytes given.classes_are) in
+          let here = subst (Holds given.held) s.is_read.2 (all s.is_read.0 s.name s.is_read.1) in
+          none_is_some here.0 (sym gone ∙ here.1)
+    ]
+
+pub complete : (answer : Status) (request : Option Request) (before after : Outside) → Stands answer request before after → IsComplete answer request before after
+complete answer None before after s = tt
+complete status.Ok (Some (Build config classes base)) before after s = λ given none. inl refl
+complete status.NoMemory (Some (Build config classes base)) before after s = λ given none. inr refl
+complete status.Usage (Some (Build config classes base)) before after s = absurd s
+complete status.Refused (Some (Build config classes base)) before after s = λ given none. absurd (not_refused config classes before given s.cause)
+complete status.ReadFault (Some (Build config classes base)) before after s = λ given none. absurd (not_missing config classes before after given none s)
+complete status.WriteFault (Some (Build config classes base)) before after (inl s) = λ given none. absurd (none.files s.stands.counted)
+complete status.WriteFault (Some (Build config classes base)) before after (inr s) = λ given none. absurd (none.out s.counted)
+
+pub complete_when_done : (request : Option Request) (before after : Outside) → IsComplete status.Ok request before after
+complete_when_done None before after = tt
+complete_when_done (Some (Build config classes base)) before after = λ given none. inl refl

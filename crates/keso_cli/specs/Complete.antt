@@ -1,0 +1,31 @@
+-- Completeness: a build of an input of the first form that can be read, in which no count of faults rose, is done, or
+-- memory was wanting.
+use Rattle.std.specs.Prelude.{◌≡◌, ◌≢◌, ◌⊎◌, ℕ, List, Option, Some, None, map, ⊤}
+use Rattle.std.specs.FinMap.{get}
+use Rattle.kes_outside.specs.Contents.{Contents}
+use Rattle.kes_outside.specs.Count.{Rose}
+use Rattle.keso_cli.specs.declared.status.Status.{Status}
+use Rattle.keso_cli.specs.declared.status.Status.TheVariants.{Ok, NoMemory}
+use Rattle.keso_cli.specs.FirstForm.Fits.{first_form}
+use Rattle.keso_cli.specs.Request.{Request, Build}
+use Rattle.keso_cli.specs.Seen.{FilesSeen}
+use Rattle.keso_cli.specs.Stands.{Outside}
+
+-- It is told that the named files hold a configuration and classes of the first form.
+pub record IsGiven (config : List ℕ) (classes : List (List ℕ)) (files : FilesSeen) : Type 0 where
+  pub held : Contents
+  pub told : files.contents ≡ Some held
+  pub text : List ℕ
+  pub bytes : List (List ℕ)
+  pub config_is : get held config ≡ Some text
+  pub classes_are : map (get held) classes ≡ map Some bytes
+  pub of_form : first_form text bytes ≢ None
+
+pub record NoneRose (before after : Outside) : Type 0 where
+  pub files : Rose before.files.faults after.files.faults → ⊥
+  pub out : Rose before.out.faults after.out.faults → ⊥
+
+abbrev pub IsComplete : Status → Option Request → Outside → Outside → Type 0
+IsComplete answer None before after = ⊤
+IsComplete answer (Some (Build config classes base)) before after =
+    IsGiven config classes before.files → NoneRose before after → (answer ≡ Ok) ⊎ (answer ≡ NoMemory)
