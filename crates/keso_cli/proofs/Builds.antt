@@ -9,6 +9,7 @@ use Rattle.keso_cli.specs.declared.compile.Texts.{Texts}
 use Rattle.keso_cli.specs.declared.trouble.Trouble.{Trouble}
 use Rattle.keso_cli.specs.declared.trouble.Trouble.TheVariants.{Usage, CannotRead, Refused, CannotWrite, CannotWriteOutput, NoMemory}
 use Rattle.keso_cli.specs.BuildEnds.{BuildStops, InputSays, IsBuiltFrom, Untouched}
+use Rattle.keso_cli.specs.Refusals.{refusal_of}
 use Rattle.keso_cli.specs.FirstForm.Counts.{first_summary}
 use Rattle.keso_cli.specs.Due.{due, AreTextsOf}
 use Rattle.keso_cli.specs.FirstForm.Fits.{first_form}
@@ -35,9 +36,9 @@ pub record InputIs (config class text bytes : List ℕ) (files : FilesSeen) : Ty
   pub config_read : IfSome files.contents (λ held. get held config ≡ Some text)
   pub class_read : IfSome files.contents (λ held. get held class ≡ Some bytes)
 
-pub input_says : (said : Option (FirstConfig × FirstClass)) (config class text bytes : List ℕ) (files : FilesSeen) → InputIs config class text bytes files
-    → first_form text (bytes ∷ []) ≡ said → InputSays said config (class ∷ []) files
-input_says said config class text bytes files input form =
+pub input_says : (says : List ℕ → List (List ℕ) → Type 0) (config class text bytes : List ℕ) (files : FilesSeen) → InputIs config class text bytes files
+    → says text (bytes ∷ []) → InputSays says config (class ∷ []) files
+input_says says config class text bytes files input form =
     (text, bytes ∷ [], form, by_contents files.contents input.config_read input.class_read) where
       by_contents : (held : Option Contents) → IfSome held (λ files. get files config ≡ Some text) → IfSome held (λ files. get files class ≡ Some bytes)
           → IfSome held (λ files. (get files config ≡ Some text) × (map (get files) (class ∷ []) ≡ map Some (bytes ∷ [])))
@@ -51,16 +52,16 @@ built_from first second config class text bytes files input form =
     record {
       first = first;
       second = second;
-      said = input_says (Some (first, second)) config class text bytes files input form;
+      said = input_says (λ t b. first_form t b ≡ Some (first, second)) config class text bytes files input form;
       made = refl;
       headline = headline first second text bytes form;
     }
 
 pub compile_stops : (trouble : Trouble) (config class base text bytes : List ℕ) (files files' : FilesSeen) (out out' : SinkSeen)
     → InputIs config class text bytes files
-    → Untouched files files' out out' → CompileStops trouble config text (bytes ∷ []) → BuildStops trouble config (class ∷ []) base files files' out out'
+    → Untouched files files' out out' → CompileStops trouble config (class ∷ []) text (bytes ∷ []) → BuildStops trouble config (class ∷ []) base files files' out out'
 compile_stops (Refused refusal name) config class base text bytes files files' out out' input same h =
-    (h.0, h.1, input_says None config class text bytes files input h.2, same)
+    (h.0, input_says (λ t b. refusal_of t b ≡ Some refusal) config class text bytes files input h.1, same)
 compile_stops NoMemory config class base text bytes files files' out out' input same h = inl same
 compile_stops Usage config class base text bytes files files' out out' input same h = absurd h
 compile_stops (CannotRead name) config class base text bytes files files' out out' input same h = absurd h

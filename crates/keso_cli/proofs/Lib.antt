@@ -2,7 +2,6 @@ pub mod Builds
 pub mod Complete
 pub mod ConfigWords
 pub mod OneByOne
-pub mod Parameters
 pub mod Troubles
 pub mod Writes
 pub mod Headline

@@ -1,11 +1,10 @@
 -- A command that stopped, and what was told of it.
 use Rattle.std.proofs.Common.{ℕ, List, Option, Some, None, ◌⊎◌, inl, inr, sym, ap, ◌∙◌, subst}
-use Rattle.kes_text.specs.declared.refusal.Refusal.{Refusal}
 use Rattle.kes_text.specs.Complaints.{refusal_text}
 use Rattle.keso_cli.specs.declared.status.Status.{Status}
 use Rattle.keso_cli.specs.declared.trouble.Trouble.{Trouble}
 use Rattle.keso_cli.specs.declared.trouble.Trouble.TheVariants.{Usage, CannotRead, Refused, CannotWrite, CannotWriteOutput, NoMemory}
-use Rattle.keso_cli.specs.BuildEnds.{BuildStops, later}
+use Rattle.keso_cli.specs.BuildEnds.{BuildStops}
 use Rattle.keso_cli.specs.CommandEnds.{CommandStops}
 use Rattle.keso_cli.specs.Request.{Request, Build}
 use Rattle.keso_cli.specs.Seen.{TakesUnlessFailed}
@@ -17,7 +16,7 @@ far : (trouble : Trouble) (config : List ℕ) (classes : List (List ℕ)) (base 
     → BuildStops trouble config classes base before.files after.files before.out after.out → NothingIsDone before after ⊎ CameSoFar config classes base before after
 far Usage config classes base before after h = absurd h
 far (CannotRead name) config classes base before after h = inl h.2
-far (Refused refusal name) config classes base before after h = inl h.3
+far (Refused refusal name) config classes base before after h = inl h.2
 far (CannotWrite name) config classes base before after h = inr (h.0, h.1, inr ((_, h.2), h.3))
 far CannotWriteOutput config classes base before after h = inr (h.0, h.1, inl (inr (h.2, h.3)))
 far NoMemory config classes base before after (inl h) = inl h
@@ -31,8 +30,7 @@ own Usage config classes base before after h line = absurd h
 own (CannotRead name) config classes base before after h line =
     record { name = name.now; is_read = h.0; cause = h.1; nothing = h.2; line = line }
 own (Refused refusal name) config classes base before after h line =
-    let says : Refusal → List ℕ → Type 0 = λ r n. TakesUnlessFailed (refusal_text r n) before.err after.err in
-    record { cause = h.2; nothing = h.3; line = subst (says later) h.1 (subst (λ r. says r name.now) h.0 line) }
+    record { refusal = refusal; cause = h.1; nothing = h.2; line = subst (λ n. TakesUnlessFailed (refusal_text refusal n) before.err after.err) h.0 line }
 own (CannotWrite name) config classes base before after h line =
     inl (record { built = h.0; from = h.1; name = _; stands = h.2; out_stays = h.3; line = line })
 own CannotWriteOutput config classes base before after h line =

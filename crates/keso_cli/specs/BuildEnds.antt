@@ -1,9 +1,8 @@
 -- How a build ends, and what then stands in the files and on the output.
-use Rattle.std.specs.Prelude.{◌≡◌, ℕ, List, ◌∷◌, Option, Some, None, IfSome, ◌⊎◌, Contains, string_bytes, map}
+use Rattle.std.specs.Prelude.{◌≡◌, ℕ, List, ◌∷◌, Some, IfSome, ◌⊎◌, Contains, string_bytes, map}
 use Rattle.std.specs.FinMap.{get}
 use Rattle.kes_outside.specs.Count.{Rose}
 use Rattle.kes_text.specs.declared.refusal.Refusal.{Refusal}
-use Rattle.kes_text.specs.declared.refusal.Kind.TheVariants.{Later}
 use Rattle.keso_cli.specs.declared.trouble.Trouble.{Trouble}
 use Rattle.keso_cli.specs.declared.trouble.Trouble.TheVariants.{Usage, CannotRead, Refused, CannotWrite, CannotWriteOutput, NoMemory}
 use Rattle.keso_cli.specs.declared.built.Built.{Built}
@@ -16,28 +15,32 @@ use Rattle.keso_cli.specs.declared.config.FirstConfig.{FirstConfig}
 use Rattle.keso_cli.specs.declared.first_class.FirstClass.{FirstClass}
 use Rattle.keso_cli.specs.FirstForm.Counts.{first_summary}
 use Rattle.keso_cli.specs.FirstForm.Fits.{first_form}
+use Rattle.keso_cli.specs.Refusals.{refusal_of, name_of}
 use Rattle.keso_cli.specs.FirstForm.Program.{built_of}
-
--- The input isn't compiled yet.
-abbrev pub later : Refusal
-later = record { file = 0; kind = Later; at = 0 }
 
 -- The files are as before, and the output has taken nothing.
 pub record Untouched (files files' : FilesSeen) (out out' : SinkSeen) : Type 0 where
   pub files_stay : files'.contents ≡ files.contents
   pub out_stays : out'.taken ≡ out.taken
 
--- A configuration and classes say this: None where they aren't of the first form. Where it is told what the files hold,
--- they are what the files of these names hold.
-abbrev pub InputSays : Option (FirstConfig × FirstClass) → List ℕ → List (List ℕ) → FilesSeen → Type 0
-InputSays said config classes files = (text : List ℕ) × (bytes : List (List ℕ)) × (first_form text bytes ≡ said)
+-- A configuration and classes say this. Where it is told what the files hold, they are what the files of these names hold.
+abbrev pub InputSays : (List ℕ → List (List ℕ) → Type 0) → List ℕ → List (List ℕ) → FilesSeen → Type 0
+InputSays says config classes files = (text : List ℕ) × (bytes : List (List ℕ)) × says text bytes
     × IfSome files.contents (λ held. (get held config ≡ Some text) × (map (get held) classes ≡ map Some bytes))
+
+-- They are of the first form.
+abbrev pub InputIsOf : FirstConfig → FirstClass → List ℕ → List (List ℕ) → FilesSeen → Type 0
+InputIsOf first second = InputSays (λ text bytes. first_form text bytes ≡ Some (first, second))
+
+-- They are refused.
+abbrev pub InputIsRefused : Refusal → List ℕ → List (List ℕ) → FilesSeen → Type 0
+InputIsRefused refusal = InputSays (λ text bytes. refusal_of text bytes ≡ Some refusal)
 
 -- What was built is what is written for the input, and keeps the headline.
 pub record IsBuiltFrom (built : Built) (config : List ℕ) (classes : List (List ℕ)) (files : FilesSeen) : Type 0 where
   pub first : FirstConfig
   pub second : FirstClass
-  pub said : InputSays (Some (first, second)) config classes files
+  pub said : InputIsOf first second config classes files
   pub made : built ≡ built_of first second
   pub headline : Headline built first second
 
@@ -59,7 +62,7 @@ BuildStops Usage config classes base files files' out out' = ⊥
 BuildStops (CannotRead name) config classes base files files' out out' =
     Contains (config ∷ classes) name.now × CannotBeRead name.now files files' × Untouched files files' out out'
 BuildStops (Refused refusal name) config classes base files files' out out' =
-    (refusal ≡ later) × (name.now ≡ config) × InputSays None config classes files × Untouched files files' out out'
+    (name.now ≡ name_of config classes refusal.file) × InputIsRefused refusal config classes files × Untouched files files' out out'
 BuildStops (CannotWrite name) config classes base files files' out out' =
     (built : Built) × IsBuiltFrom built config classes files
     × WriteFailed (texts_of base built) (string_bytes name) files files' × (out'.taken ≡ out.taken)

@@ -1,16 +1,12 @@
 pub mod Application
-pub mod Bytes
 pub mod Class
 pub mod Code
 pub mod Config
 pub mod Counts
-pub mod Descriptors
 pub mod Fits
 pub mod LineViews
 pub mod Lines
 pub mod Methods
-pub mod Names
 pub mod Operands
-pub mod Pool
 pub mod Program
 pub mod Words

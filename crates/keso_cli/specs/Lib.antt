@@ -7,6 +7,7 @@ pub mod ExitCode
 pub mod FirstForm
 pub mod Headline
 pub mod Left
+pub mod Refusals
 pub mod Request
 pub mod Said
 pub mod Seen

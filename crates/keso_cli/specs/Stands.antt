@@ -1,14 +1,16 @@
 -- What stands after a call of the program, by its status.
 use Rattle.std.specs.Prelude.{◌≡◌, ℕ, List, ◌∷◌, Option, Some, None, ◌⊎◌, Contains}
 use Rattle.kes_outside.specs.Count.{Rose}
+use Rattle.kes_text.specs.declared.refusal.Refusal.{Refusal}
 use Rattle.kes_text.specs.Complaints.{refusal_text, usage_text, cannot_read_text, cannot_write_text, no_output_text}
 use Rattle.keso_cli.specs.declared.status.Status.{Status}
 use Rattle.keso_cli.specs.declared.status.Status.TheVariants as status
-use Rattle.keso_cli.specs.BuildEnds.{BuildIsDone, InputSays, IsBuiltFrom, StoppedWriting, Untouched, later}
+use Rattle.keso_cli.specs.BuildEnds.{BuildIsDone, InputIsRefused, IsBuiltFrom, StoppedWriting, Untouched}
 use Rattle.keso_cli.specs.declared.built.Built.{Built}
 use Rattle.keso_cli.specs.FirstForm.Counts.{first_summary}
 use Rattle.keso_cli.specs.Texts.{texts_of}
 use Rattle.keso_cli.specs.Left.{CannotBeRead, Written, WriteFailed}
+use Rattle.keso_cli.specs.Refusals.{name_of}
 use Rattle.keso_cli.specs.Request.{Request, Build}
 use Rattle.keso_cli.specs.Seen.{FilesSeen, SinkSeen, TakesPrefix, TakesUnlessFailed}
 use Rattle.keso_cli.specs.Summary.{summary_text}
@@ -29,11 +31,12 @@ pub record OkStands (config : List ℕ) (classes : List (List ℕ)) (base : List
   pub build : BuildIsDone config classes base before.files after.files before.out after.out
   pub silent : after.err.taken ≡ before.err.taken
 
--- Refused: the input isn't of the first form.
+-- Refused: a class file has a fault, which is the first, or none has one and the input isn't of the first form.
 pub record RefusedStands (config : List ℕ) (classes : List (List ℕ)) (before after : Outside) : Type 0 where
-  pub cause : InputSays None config classes before.files
+  pub refusal : Refusal
+  pub cause : InputIsRefused refusal config classes before.files
   pub nothing : NothingIsDone before after
-  pub line : TakesUnlessFailed (refusal_text later config) before.err after.err
+  pub line : TakesUnlessFailed (refusal_text refusal (name_of config classes refusal.file)) before.err after.err
 
 -- No file was read or written, and nothing was put on the output: not even a count of faults has changed.
 pub record NothingIsTried (before after : Outside) : Type 0 where

@@ -1,14 +1,14 @@
 -- Where the steps of a build stop.
-use Rattle.std.specs.Prelude.{◌≡◌, ℕ, List, None, IfSome, IsSomeAnd, string_bytes}
+use Rattle.std.specs.Prelude.{◌≡◌, ℕ, List, Some, IfSome, IsSomeAnd, string_bytes}
+use Rattle.classfile.specs.Reading.{class_file}
 use Rattle.kes_outside.specs.Contents.{OthersStay}
 use Rattle.kes_outside.specs.Count.{Rose}
 use Rattle.keso_cli.specs.declared.trouble.Trouble.{Trouble}
 use Rattle.keso_cli.specs.declared.trouble.Trouble.TheVariants.{CannotRead, Refused, CannotWrite, CannotWriteOutput, NoMemory}
 use Rattle.keso_cli.specs.Texts.{Text}
-use Rattle.keso_cli.specs.BuildEnds.{later}
 use Rattle.keso_cli.specs.Left.{CannotBeRead, WrittenInPart, WriteFailed}
 use Rattle.keso_cli.specs.Seen.{FilesSeen, SinkSeen, TakesPrefix}
-use Rattle.keso_cli.specs.FirstForm.Fits.{first_form}
+use Rattle.keso_cli.specs.Refusals.{fault_of, refusal_of, name_of}
 
 -- A file of this name isn't read.
 abbrev pub ReadStops : Trouble → List ℕ → FilesSeen → FilesSeen → Type 0
@@ -16,11 +16,17 @@ ReadStops (CannotRead read) name before after = (read.now ≡ name) × CannotBeR
 ReadStops NoMemory name before after = Unit {0}
 ReadStops _ name before after = ⊥
 
--- The input of this configuration's name isn't compiled.
-abbrev pub CompileStops : Trouble → List ℕ → List ℕ → List (List ℕ) → Type 0
-CompileStops (Refused refusal refused) name config classes = (refusal ≡ later) × (refused.now ≡ name) × (first_form config classes ≡ None)
-CompileStops NoMemory name config classes = Unit {0}
-CompileStops _ name config classes = ⊥
+-- The class file of this name has a fault.
+abbrev pub ClassStops : Trouble → List ℕ → List ℕ → Type 0
+ClassStops (Refused refusal refused) name bytes = (refused.now ≡ name) × (fault_of 1 (class_file bytes) ≡ Some refusal)
+ClassStops NoMemory name bytes = Unit {0}
+ClassStops _ name bytes = ⊥
+
+-- The input of these names, a configuration's text and the bytes of classes, isn't compiled.
+abbrev pub CompileStops : Trouble → List ℕ → List (List ℕ) → List ℕ → List (List ℕ) → Type 0
+CompileStops (Refused refusal name) config classes text bytes = (name.now ≡ name_of config classes refusal.file) × (refusal_of text bytes ≡ Some refusal)
+CompileStops NoMemory config classes text bytes = Unit {0}
+CompileStops _ config classes text bytes = ⊥
 
 -- A text isn't written to its file.
 abbrev pub WriteStops : Trouble → Text → FilesSeen → FilesSeen → Type 0

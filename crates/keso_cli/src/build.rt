@@ -111,7 +111,7 @@ pub fn build<'a, F: Files, O: Sink>(
 {
     let config = read(alloc, files, names.config)?;
     let class = read(alloc, files, names.class)?;
-    let texts = compile(alloc, names.config, config.as_slice(), class.as_slice())?;
+    let texts = compile(alloc, names, config.as_slice(), class.as_slice())?;
     write_texts(alloc, files, names.base, &texts)?;
     put_summary(alloc, out)
 }

@@ -1,21 +1,26 @@
-ghost use Rattle.std.specs.Prelude.{◌≡◌, ◌∷◌, [], Some, IfOk, IfErr};
+ghost use Rattle.std.specs.Prelude.{◌≡◌, ◌∷◌, [], Some, Ok, IfOk, IfErr};
 ghost use Rattle.std.specs.Option.{option_map};
 ghost use Rattle.keso_cli.specs.declared.config.FirstConfig.{FirstConfig};
 ghost use Rattle.keso_cli.specs.declared.first_class.FirstClass.{FirstClass};
 ghost use Rattle.keso_cli.specs.Due.{AreTextsOf};
-ghost use Rattle.keso_cli.specs.FirstForm.Fits.{fits, first_form};
+ghost use Rattle.classfile.specs.Reading.{class_file};
+ghost use Rattle.keso_cli.specs.FirstForm.Class.{class_of};
+ghost use Rattle.keso_cli.specs.FirstForm.Config.{config_of};
+ghost use Rattle.keso_cli.specs.FirstForm.Fits.{fits, if_they_fit, first_form};
 ghost use Rattle.keso_cli.specs.FirstForm.Program.{built_of};
 ghost use Rattle.keso_cli.specs.Said.{said};
-ghost use Rattle.keso_cli.specs.Stops.{CompileStops};
+ghost use Rattle.keso_cli.specs.Stops.{ClassStops, CompileStops};
 
 use crate::built::Built;
 use crate::config::{FirstConfig, read_config};
 use crate::config_words::is_object_name;
 use crate::emit::{emit, shown_method};
-use crate::first_class::{FirstClass, read_class};
+use crate::first_class::{FirstClass, first_class};
 use crate::trouble::Trouble;
+use crate::words::Build;
 use c_out::print_c;
-use kes_text::{Kind, NoMemory, Refusal};
+use classfile::{Class, read_class};
+use kes_text::{Kind, NoMemory, Refusal, Stop};
 use mapfile::print_map;
 use oil_out::print_oil;
 use std::alloc::Global;
@@ -57,11 +62,27 @@ fn fits(alloc: Global, config: &FirstConfig, class: &FirstClass) -> Result<bool,
     )
 }
 
-/// The input, if it is of the first form.
-fn first_input(alloc: Global, config: &[u8], class: &[u8]) -> Result<Option<FirstInput>, NoMemory>
-    ensures { IfOk result (λ found. option_map said found ≡ first_form config.now (class.now ∷ [])) }
+/// What the class file of this name says.
+fn class_of<'c, 'a>(alloc: Global, name: &'a str, bytes: &'c [u8]) -> Result<Class<'c>, Trouble<'a>>
+    ensures ok { IfOk result (λ class. class_file bytes.now ≡ Ok class) }
+    ensures stop { IfErr result (λ trouble. ClassStops trouble name.now bytes.now) }
 {
-    let (Some(config), Some(class)) = (read_config(alloc, config)?, read_class(alloc, class)?)
+    match read_class(alloc, bytes) {
+        Ok(class) => Ok(class),
+        Err(Stop::Refused(fault)) => Err(Trouble::Refused(Refusal { file: 1, ..fault }, name)),
+        Err(Stop::NoMemory) => Err(Trouble::NoMemory),
+    }
+}
+
+/// The input, if it is of the first form.
+fn first_input(
+    alloc: Global,
+    config: &[u8],
+    class: &Class<'_>,
+) -> Result<Option<FirstInput>, NoMemory>
+    ensures { IfOk result (λ found. option_map said found ≡ if_they_fit (config_of config.now) (class_of class.now)) }
+{
+    let (Some(config), Some(class)) = (read_config(alloc, config)?, first_class(alloc, class)?)
     else {
         return Ok(None);
     };
@@ -83,19 +104,21 @@ fn texts_of(alloc: Global, built: &Built) -> Result<Texts, NoMemory>
     })
 }
 
-/// The texts of an input of the first form. Any other is refused, under the configuration's name.
+/// The texts of an input of the first form. A class file that has a fault is refused under its name, and
+/// any other input under the configuration's.
 pub fn compile<'a>(
     alloc: Global,
-    name: &'a str,
+    names: Build<'a>,
     config: &[u8],
     class: &[u8],
 ) -> Result<Texts, Trouble<'a>>
     ensures texts { IfOk result (λ texts. (first : FirstConfig) × (second : FirstClass)
         × (first_form config.now (class.now ∷ []) ≡ Some (first, second)) × AreTextsOf (built_of first second) texts) }
-    ensures stop { IfErr result (λ trouble. CompileStops trouble name.now config.now (class.now ∷ [])) }
+    ensures stop { IfErr result (λ trouble. CompileStops trouble names.entry.config.now (names.entry.class.now ∷ []) config.now (class.now ∷ [])) }
 {
-    let Some(input) = first_input(alloc, config, class)? else {
-        return Err(Trouble::Refused(LATER, name));
+    let class = class_of(alloc, names.class, class)?;
+    let Some(input) = first_input(alloc, config, &class)? else {
+        return Err(Trouble::Refused(LATER, names.config));
     };
     let built = emit(alloc, &input.config, &input.class)?;
     Ok(texts_of(alloc, &built)?)

@@ -2,26 +2,20 @@
 //! method, drops what it answers, and returns.
 
 ghost use Rattle.std.specs.Prelude.{◌≡◌, IfOk};
-ghost use Rattle.keso_cli.specs.FirstForm.Class.{is_built_in, is_own_name, is_lawful_declaration, class_in, class_of};
+ghost use Rattle.keso_cli.specs.FirstForm.Class.{is_built_in, is_own_name, is_plain_class, class_with, class_of};
 
-mod bytes;
 mod code;
-mod descriptor;
-mod entry;
-mod file;
 mod held;
 mod method;
-mod pool;
 #[cfg(test)]
 mod tests;
-mod text;
 
-use bytes::Bytes;
-use file::{File, file_of};
+use classfile::{Access, Class, Code};
+use code::{is_lawful, is_plain, operations_of};
 use kes_text::NoMemory;
+use method::native_and_entry;
 use sqlite_items::Items;
 use std::alloc::Global;
-use text::Text;
 
 /// What an instruction of the entry's code does (JVMS 6.5).
 #[derive(Clone, Copy, Debug, PartialEq, Eq)]
@@ -41,11 +35,11 @@ pub enum Op {
     Return,
 }
 
-/// An instruction, and how many bytes of operands stand behind its opcode.
+/// An instruction, at the place of its first byte in the code.
 #[derive(Clone, Copy, Debug, PartialEq, Eq)]
-pub struct Spelled {
+pub struct Placed {
+    pub pc: u16,
     pub op: Op,
-    pub operands: u8,
 }
 
 /// What a class of the first form has. Names are bytes of the class file.
@@ -58,10 +52,8 @@ pub struct FirstClass {
     pub entry: Items<u8>,
     pub max_stack: u16,
     pub max_locals: u16,
-    pub code: Items<Spelled>,
+    pub code: Items<Placed>,
 }
-
-const ACC_INTERFACE: u16 = 0x0200;
 
 /// Whether every program has a class of this name.
 fn is_built_in(name: &[u8]) -> bool
@@ -73,75 +65,71 @@ fn is_built_in(name: &[u8]) -> bool
         || name == b"java/lang/RuntimeException".as_slice()
 }
 
-fn is_own_name(name: &Text<'_>) -> bool
+fn is_own_name(name: &[u8]) -> bool
     ensures { result ≡ is_own_name name.now }
 {
-    !name.begins_with(b'[') && !is_built_in(name.as_slice())
+    let is_array = match name {
+        [] => false,
+        [first, ..] => *first == b'[',
+    };
+    !is_array && !is_built_in(name)
 }
 
-fn is_lawful(file: &File<'_>, name: &Text<'_>, parent: &Text<'_>) -> bool
-    ensures { result ≡ is_lawful_declaration file.now name.now parent.now }
+fn is_plain_class(class: &Class<'_>) -> bool
+    ensures { result ≡ is_plain_class class.now }
 {
-    file.pool.is_lawful()
-        && !method::is_set(file.flags, ACC_INTERFACE)
-        && is_own_name(name)
-        && parent.as_slice() == b"java/lang/Object".as_slice()
+    !method::is_set(class.flags(), Access::INTERFACE)
+        && is_own_name(class.name())
+        && class.super_name() == b"java/lang/Object".as_slice()
+        && class.interfaces().is_empty()
+        && class.fields().is_empty()
 }
 
-#[tactic(auto, unfolding(crate::specs::FirstForm::Class::class_in))]
-fn class_in(alloc: Global, file: &File<'_>) -> Result<Option<FirstClass>, NoMemory>
-    ensures { IfOk result (λ found. found ≡ class_in file.now) }
+/// The class of these names and of this code, if the code is lawful.
+#[tactic(auto, unfolding(crate::specs::FirstForm::Class::class_with))]
+fn class_with(
+    alloc: Global,
+    class: &Class<'_>,
+    native: &[u8],
+    entry: &[u8],
+    code: &Code<'_>,
+) -> Result<Option<FirstClass>, NoMemory>
+    ensures { IfOk result (λ found. found ≡ class_with class.now native.now entry.now code.now) }
 {
-    let pool = &file.pool;
-    let Some(name) = pool.class_name(file.this_class) else {
+    let Some(operations) = operations_of(alloc, class, native, code)? else {
         return Ok(None);
     };
-    let Some(parent) = pool.class_name(file.super_class) else {
-        return Ok(None);
-    };
-    let Some((native, entry)) = method::native_and_entry(pool, &file.first, &file.second) else {
-        return Ok(None);
-    };
-    let Some(native) = pool.text(native.name) else {
-        return Ok(None);
-    };
-    let Some(code) = &entry.code else {
-        return Ok(None);
-    };
-    let Some(entry) = pool.text(entry.name) else {
-        return Ok(None);
-    };
-    let Some(operations) = code::operations_of(alloc, pool, name, native, &code.bytes)? else {
-        return Ok(None);
-    };
-    if !is_lawful(file, name, parent)
-        || !code::is_lawful(
+    if !is_plain_class(class)
+        || !is_plain(code)
+        || !is_lawful(
             alloc,
             code.max_stack,
             code.max_locals,
             operations.as_slice(),
         )?
-        || !code::is_lawful_size(code.max_stack, code.max_locals, &code.bytes)
     {
         return Ok(None);
     }
     Ok(Some(FirstClass {
-        name: Items::from_slice(alloc, name.as_slice())?,
-        native: Items::from_slice(alloc, native.as_slice())?,
-        entry: Items::from_slice(alloc, entry.as_slice())?,
+        name: Items::from_slice(alloc, class.name())?,
+        native: Items::from_slice(alloc, native)?,
+        entry: Items::from_slice(alloc, entry)?,
         max_stack: code.max_stack,
         max_locals: code.max_locals,
         code: operations,
     }))
 }
 
-/// The class of the first form that the bytes are, or None where they are none.
+/// The class of the first form that a class file has, or None where it has none.
 #[tactic(auto, unfolding(crate::specs::FirstForm::Class::class_of))]
-pub fn read_class(alloc: Global, bytes: &[u8]) -> Result<Option<FirstClass>, NoMemory>
-    ensures { IfOk result (λ found. found ≡ class_of bytes.now) }
+pub fn first_class(alloc: Global, class: &Class<'_>) -> Result<Option<FirstClass>, NoMemory>
+    ensures { IfOk result (λ found. found ≡ class_of class.now) }
 {
-    match file_of(alloc, &Bytes::new(bytes))? {
-        Some(file) => class_in(alloc, &file),
+    let Some((native, entry)) = native_and_entry(class.methods()) else {
+        return Ok(None);
+    };
+    match &entry.code {
+        Some(code) => class_with(alloc, class, native.name, entry.name, code),
         None => Ok(None),
     }
 }

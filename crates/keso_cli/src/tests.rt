@@ -247,7 +247,50 @@ fn input_of_another_form_comes_later(rt: HostRuntime) -> Result<(), Fail> {
         assert_eq!(rt; ran.err.bytes(), b"keso: main.cfg: Later at 0\n".as_slice());
         assert_eq!(rt; ran.files.get("row.c"), None);
     }
-    let ran = build_of(alloc, CONFIG, &CLASS[..137], NONE_FAILS)?;
+    Ok(())
+}
+
+/// The example with another byte at a place.
+fn with_byte(at: usize, byte: u8) -> [u8; 138] {
+    let mut bytes = CLASS;
+    if at < 138 {
+        bytes[at] = byte;
+    }
+    bytes
+}
+
+#[test]
+fn a_fault_of_the_class_file_comes_before_later(rt: HostRuntime) -> Result<(), Fail> {
+    let alloc = rt.alloc();
+    let cases = [
+        (0, 0xcb, "keso: Main.class: Magic at 0\n"),
+        (7, 0x35, "keso: Main.class: Version at 6\n"),
+        (10, 2, "keso: Main.class: PoolTag at 10\n"),
+        (126, 0, "keso: Main.class: CodeLength at 123\n"),
+        (12, 0, "keso: Main.class: PoolIndex at 11\n"),
+        (84, 5, "keso: Main.class: BadDescriptor at 83\n"),
+        (112, 0, "keso: Main.class: CodeCount at 105\n"),
+    ];
+    for (at, byte, line) in cases {
+        for config in ["", CONFIG] {
+            let ran = build_of(alloc, config, &with_byte(at, byte), NONE_FAILS)?;
+            assert_eq!(rt; ran.status, Status::Refused);
+            assert_eq!(rt; ran.err.bytes(), line.as_bytes());
+            assert_eq!(rt; ran.files.get("row.c"), None);
+        }
+    }
+    let ran = build_of(alloc, CONFIG, &CLASS[..9], NONE_FAILS)?;
+    assert_eq!(rt;
+        ran.err.bytes(),
+        b"keso: Main.class: Truncated at 9\n".as_slice()
+    );
+    Ok(())
+}
+
+#[test]
+fn a_class_of_another_form_comes_later(rt: HostRuntime) -> Result<(), Fail> {
+    let ran = build_of(rt.alloc(), CONFIG, &with_byte(130, 0x00), NONE_FAILS)?;
     assert_eq!(rt; ran.status, Status::Refused);
+    assert_eq!(rt; ran.err.bytes(), b"keso: main.cfg: Later at 0\n".as_slice());
     Ok(())
 }

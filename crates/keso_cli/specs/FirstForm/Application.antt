@@ -1,5 +1,5 @@
 -- The application that a configuration and a class of the first form describe, as the bytecode run takes it.
-use Rattle.std.specs.Prelude.{ℕ, ◌+◌, false, List, [], ◌∷◌, Some, None, codes}
+use Rattle.std.specs.Prelude.{false, [], ◌∷◌, Some, None, codes, map}
 use Rattle.std.specs.Int.{w32, cast_signed}
 use Rattle.osek_core.specs.declared.call.Call.TheVariants.{ActivateTask}
 use Rattle.osek_core.specs.declared.tables.Tables.{Tables}
@@ -8,7 +8,7 @@ use Rattle.osek_core.specs.Bytecode.Application.{Application, Whole}
 use Rattle.keso_cli.specs.declared.config.FirstConfig.{FirstConfig}
 use Rattle.keso_cli.specs.declared.first_class.FirstClass.{FirstClass}
 use Rattle.keso_cli.specs.declared.first_class.Op.{Op}
-use Rattle.keso_cli.specs.declared.first_class.Spelled.{Spelled}
+use Rattle.keso_cli.specs.declared.first_class.Placed.{Placed}
 use Rattle.keso_cli.specs.declared.first_class.Op.TheVariants as op
 
 -- ()I and ()V
@@ -36,15 +36,8 @@ instruction_of class op.Invoke = Instruction.InvokeStatic (native_member class)
 instruction_of class op.Pop = Instruction.Pop
 instruction_of class op.Return = Instruction.Return
 
--- its opcode, and its operands
-abbrev pub size_of : Spelled → ℕ
-size_of s = 1 + s.operands
-
--- the instructions one behind another, from this offset on
-abbrev pub located_from : FirstClass → ℕ → List Spelled → List Located
-located_from class pc [] = []
-located_from class pc (s ∷ more) =
-    record { pc = pc; instruction = instruction_of class s.op } ∷ located_from class (pc + size_of s) more
+abbrev pub located : FirstClass → Placed → Located
+located class p = record { pc = p.pc; instruction = instruction_of class p.op }
 
 -- ACC_STATIC and ACC_NATIVE, and ACC_STATIC
 abbrev pub native_method : FirstClass → Method
@@ -55,7 +48,7 @@ entry_method class = record {
   name = class.entry;
   descriptor = answers_nothing;
   flags = 0x0008;
-  code = Some (record { max_stack = class.max_stack; max_locals = class.max_locals; instructions = located_from class 0 class.code });
+  code = Some (record { max_stack = class.max_stack; max_locals = class.max_locals; instructions = map (located class) class.code });
 }
 
 abbrev pub class_file : FirstClass → ClassFile

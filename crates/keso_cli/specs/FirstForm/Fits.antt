@@ -1,16 +1,15 @@
 -- A configuration and a class of the first form that belong together.
-use Rattle.std.specs.Prelude.{ℕ, Bool, true, false, not, ◌&&◌, List, [], ◌∷◌, ◌++◌, codes, Option, Some, None, if◌then◌else◌}
+use Rattle.std.specs.Prelude.{ℕ, Bool, not, ◌&&◌, List, [], ◌∷◌, ◌++◌, codes, Option, Some, None, if◌then◌else◌}
+use Rattle.std.specs.Result.{result_ok}
 use Rattle.std.specs.Str.{bytes_eq}
+use Rattle.classfile.specs.Pool.{◌>>=◌}
+use Rattle.classfile.specs.Reading.{class_file}
 use Rattle.kes_text.specs.Shown.{shown}
 use Rattle.keso_cli.specs.declared.config.FirstConfig.{FirstConfig}
 use Rattle.keso_cli.specs.declared.first_class.FirstClass.{FirstClass}
 use Rattle.keso_cli.specs.FirstForm.Config.{config_of}
 use Rattle.keso_cli.specs.FirstForm.Words.{is_object_name}
-use Rattle.keso_cli.specs.FirstForm.Class.{class_of}
-
-abbrev pub is_empty : List ℕ → Bool
-is_empty [] = true
-is_empty (first ∷ others) = false
+use Rattle.keso_cli.specs.FirstForm.Class.{is_empty, class_of}
 
 -- a method as it is shown: Class/Name.method(desc)ret
 abbrev pub method_text : List ℕ → List ℕ → List ℕ → List ℕ
@@ -27,7 +26,13 @@ abbrev pub if_they_fit : Option FirstConfig → Option FirstClass → Option (Fi
 if_they_fit (Some config) (Some class) = if fits config class then Some (config, class) else None
 if_they_fit _ _ = None
 
+-- the class of the first form that the bytes of a class file are
+abbrev pub class_in : List ℕ → Option FirstClass
+class_in bytes = do
+  class ← result_ok (class_file bytes)
+  class_of class
+
 -- what a configuration and one class of the first form say
 abbrev pub first_form : List ℕ → List (List ℕ) → Option (FirstConfig × FirstClass)
-first_form text (class ∷ []) = if_they_fit (config_of text) (class_of class)
+first_form text (class ∷ []) = if_they_fit (config_of text) (class_in class)
 first_form _ _ = None

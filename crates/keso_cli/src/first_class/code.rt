@@ -1,156 +1,95 @@
 //! The code of the entry (JVMS 6.5).
 
-ghost use Rattle.std.specs.Prelude.{◌≡◌, IfOk, length, position};
-ghost use Rattle.keso_cli.specs.FirstForm.Code.{is_call, call_at, const_of, plain_op, operation_at, operations_of, is_return, returns_at_end, is_lawful_code, is_lawful_size};
-ghost use Rattle.std.specs.Int.{w8, w16};
+ghost use Rattle.std.specs.Prelude.{◌≡◌, IfOk, position};
+ghost use Rattle.keso_cli.specs.FirstForm.Code.{is_call, on_ints, op_of, placed, operations_of, operations_in, is_return, returns_at_end, is_lawful_code, is_plain_code};
 
-use crate::first_class::bytes::Bytes;
 use crate::first_class::held::runs;
-use crate::first_class::pool::Pool;
-use crate::first_class::text::Text;
-use crate::first_class::{Op, Spelled};
-use kes_text::NoMemory;
+use crate::first_class::{Op, Placed};
+use classfile::{Class, Code};
+use jcode::{Ins, decode};
+use kes_text::{NoMemory, Stop};
 use sqlite_items::Items;
-use std::alloc::Global;
+use std::alloc::{AllocError, Global};
 
-const MAX_CODE_LENGTH: usize = 65535;
-
-const BIPUSH: u8 = 0x10;
-
-const SIPUSH: u8 = 0x11;
-
-const ILOAD: u8 = 0x15;
-
-const ISTORE: u8 = 0x36;
-
-const INVOKESTATIC: u8 = 0xB8;
-
-fn is_call(pool: &Pool<'_>, class: &Text<'_>, name: &Text<'_>, index: u16) -> bool
-    ensures { result ≡ is_call pool.now class.now name.now index }
+/// Whether the entry of the constant pool names the method `()I` of the class itself that has this name.
+fn is_call(class: &Class<'_>, name: &[u8], index: u16) -> bool
+    ensures { result ≡ is_call class.now name.now index }
 {
-    match pool.methodref(index) {
-        Some((owner, member, descriptor)) => {
-            owner.as_slice() == class.as_slice()
-                && member.as_slice() == name.as_slice()
-                && descriptor.as_slice() == b"()I".as_slice()
-        }
+    match class.member(index) {
+        Some(member) => member.class == class.name()
+            && member.name == name
+            && member.descriptor == b"()I".as_slice(),
         None => false,
     }
 }
 
-fn call_of<'a>(
-    pool: &Pool<'a>,
-    class: &Text<'a>,
-    native: &Text<'a>,
-    bytes: &Bytes<'a>,
-) -> Option<(Spelled, Bytes<'a>)>
-    ensures { result ≡ call_at (is_call pool.now class.now native.now) bytes.now }
+/// An operation on ints, which has a form on longs too.
+fn on_ints(wide: bool, op: Op) -> Option<Op>
+    ensures { result ≡ on_ints wide op }
 {
-    let (index, rest) = bytes.u16()?;
-    if is_call(pool, class, native, index) {
-        Some((
-            Spelled {
-                op: Op::Invoke,
-                operands: 2,
-            },
-            rest,
-        ))
-    } else {
-        None
-    }
+    if wide { None } else { Some(op) }
 }
 
-/// The constant that a byte is by its sign.
-fn byte_constant(byte: u8) -> Op
-    ensures { result ≡ const_of w8 byte }
+/// The operation, if the first form has it. A call is of the native method of this name.
+fn op_of(class: &Class<'_>, native: &[u8], op: &jcode::Op) -> Option<Op>
+    ensures { result ≡ op_of (is_call class.now native.now) op.now }
 {
-    Op::Const(i32::from(byte.cast_signed()).cast_unsigned())
-}
-
-/// The constant that a short is by its sign.
-fn short_constant(short: u16) -> Op
-    ensures { result ≡ const_of w16 short }
-{
-    Op::Const(i32::from(short.cast_signed()).cast_unsigned())
-}
-
-/// The instruction of an opcode without operands.
-fn plain_op(opcode: u8) -> Option<Op>
-    ensures { result ≡ plain_op opcode }
-{
-    match opcode {
-        0x02..=0x08 => Some(byte_constant(opcode.wrapping_sub(3))),
-        0x1A..=0x1D => Some(Op::Load(u16::from(opcode - 0x1A))),
-        0x3B..=0x3E => Some(Op::Store(u16::from(opcode - 0x3B))),
-        0x57 => Some(Op::Pop),
-        0x60 => Some(Op::Add),
-        0x64 => Some(Op::Sub),
-        0x68 => Some(Op::Mul),
-        0xB1 => Some(Op::Return),
+    match op {
+        jcode::Op::Const4 { value } => Some(Op::Const(value.cast_unsigned())),
+        jcode::Op::LoadI { slot } => Some(Op::Load(*slot)),
+        jcode::Op::StoreI { slot } => Some(Op::Store(*slot)),
+        jcode::Op::Add { wide } => on_ints(*wide, Op::Add),
+        jcode::Op::Sub { wide } => on_ints(*wide, Op::Sub),
+        jcode::Op::Mul { wide } => on_ints(*wide, Op::Mul),
+        jcode::Op::InvokeStatic { index } if is_call(class, native, *index) => Some(Op::Invoke),
+        jcode::Op::Pop => Some(Op::Pop),
+        jcode::Op::Return => Some(Op::Return),
         _ => None,
     }
 }
 
-fn operation_of<'a>(
-    pool: &Pool<'a>,
-    class: &Text<'a>,
-    native: &Text<'a>,
-    bytes: &Bytes<'a>,
-) -> Option<(Spelled, Bytes<'a>)>
-    ensures { result ≡ operation_at (is_call pool.now class.now native.now) bytes.now }
+fn placed(class: &Class<'_>, native: &[u8], ins: &Ins) -> Option<Placed>
+    ensures { result ≡ placed (is_call class.now native.now) ins.now }
 {
-    let (opcode, rest) = bytes.u8()?;
-    let (op, operands, rest) = match opcode {
-        BIPUSH => {
-            let (byte, rest) = rest.u8()?;
-            (byte_constant(byte), 1, rest)
-        }
-        SIPUSH => {
-            let (short, rest) = rest.u16()?;
-            (short_constant(short), 2, rest)
-        }
-        ILOAD => {
-            let (slot, rest) = rest.u8()?;
-            (Op::Load(u16::from(slot)), 1, rest)
-        }
-        ISTORE => {
-            let (slot, rest) = rest.u8()?;
-            (Op::Store(u16::from(slot)), 1, rest)
-        }
-        INVOKESTATIC => return call_of(pool, class, native, &rest),
-        _ => (plain_op(opcode)?, 0, rest),
-    };
-    Some((Spelled { op, operands }, rest))
+    Some(Placed {
+        pc: ins.pc,
+        op: op_of(class, native, &ins.op)?,
+    })
 }
 
-/// The instructions of the code, of which each call is of the native method of the class.
-pub fn operations_of<'a>(
+/// The instructions, if each is of the first form.
+fn all_placed(
     alloc: Global,
-    pool: &Pool<'a>,
-    class: &Text<'a>,
-    native: &Text<'a>,
-    code: &Bytes<'a>,
-) -> Result<Option<Items<Spelled>>, NoMemory>
-    ensures { IfOk result (λ found. found ≡ operations_of (is_call pool.now class.now native.now) code.now) }
+    class: &Class<'_>,
+    native: &[u8],
+    code: &[Ins],
+) -> Result<Option<Items<Placed>>, NoMemory>
+    ensures { IfOk result (λ found. found ≡ operations_of (is_call class.now native.now) code.now) }
 {
     let mut operations = Items::new(alloc);
-    let mut rest = Bytes::new(code.as_slice());
-    for _ in 0..code.len() {
-        if rest.is_empty() {
-            break;
-        }
-        match operation_of(pool, class, native, &rest) {
-            Some((operation, behind)) => {
-                operations.push(operation)?;
-                rest = behind;
-            }
+    for ins in code {
+        match placed(class, native, ins) {
+            Some(operation) => operations.push(operation)?,
             None => return Ok(None),
         }
     }
-    if rest.is_empty() {
-        Ok(Some(operations))
-    } else {
-        Ok(None)
+    Ok(Some(operations))
+}
+
+/// The instructions of the code, if each is of the first form and each call is of the native method of
+/// this name.
+pub fn operations_of(
+    alloc: Global,
+    class: &Class<'_>,
+    native: &[u8],
+    code: &Code<'_>,
+) -> Result<Option<Items<Placed>>, NoMemory>
+    ensures { IfOk result (λ found. found ≡ operations_in class.now native.now code.now) }
+{
+    match decode(alloc, code.bytes, code.at, class) {
+        Ok(instructions) => all_placed(alloc, class, native, instructions.as_slice()),
+        Err(Stop::Refused(_)) => Ok(None),
+        Err(Stop::NoMemory) => Err(AllocError),
     }
 }
 
@@ -160,14 +99,14 @@ fn is_return(operation: Op) -> bool
     matches!(operation, Op::Return)
 }
 
-fn first_return(code: &[Spelled]) -> Option<usize>
-    ensures { result ≡ position (λ s. is_return s.op) code.now }
+fn first_return(code: &[Placed]) -> Option<usize>
+    ensures { result ≡ position (λ p. is_return p.op) code.now }
 {
-    code.iter().position(|spelled| is_return(spelled.op))
+    code.iter().position(|placed| is_return(placed.op))
 }
 
 /// Whether the first return is the last instruction.
-fn returns_at_end(code: &[Spelled]) -> bool
+fn returns_at_end(code: &[Placed]) -> bool
     ensures { result ≡ returns_at_end code.now }
 {
     match first_return(code) {
@@ -181,7 +120,7 @@ pub fn is_lawful(
     alloc: Global,
     max_stack: u16,
     max_locals: u16,
-    code: &[Spelled],
+    code: &[Placed],
 ) -> Result<bool, NoMemory>
     ensures { IfOk result (λ answer. answer ≡ is_lawful_code max_stack max_locals code.now) }
 {
@@ -192,10 +131,9 @@ pub fn is_lawful(
     }
 }
 
-/// Whether there are from 1 to 65,535 bytes of code.
-pub fn is_lawful_size(max_stack: u16, max_locals: u16, code: &Bytes<'_>) -> bool
-    ensures { result ≡ is_lawful_size max_stack max_locals (length code.now) }
+/// Whether it has no handlers and no frames.
+pub fn is_plain(code: &Code<'_>) -> bool
+    ensures { result ≡ is_plain_code code.now }
 {
-    let count = code.len();
-    1 <= count && count <= MAX_CODE_LENGTH
+    code.handlers == 0 && code.maps.is_none()
 }

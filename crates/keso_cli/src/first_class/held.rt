@@ -3,7 +3,7 @@
 ghost use Rattle.std.specs.Prelude.{◌≡◌, ◌≤◌, IfOk, replicate, false, slice_index_or};
 ghost use Rattle.keso_cli.specs.FirstForm.Operands.{pushed, popped, stored_into, held_behind, runs};
 
-use crate::first_class::{Op, Spelled};
+use crate::first_class::{Op, Placed};
 use kes_text::NoMemory;
 use sqlite_items::Items;
 use std::alloc::Global;
@@ -99,13 +99,13 @@ pub fn runs(
     alloc: Global,
     max_stack: u16,
     max_locals: u16,
-    code: &[Spelled],
+    code: &[Placed],
 ) -> Result<bool, NoMemory>
     ensures { IfOk result (λ answer. answer ≡ runs max_stack (record { depth = 0; stored = replicate max_locals false }) code.now) }
 {
     let mut held = none_held(alloc, max_locals)?;
-    for spelled in code {
-        match held_behind(max_stack, held, spelled.op) {
+    for placed in code {
+        match held_behind(max_stack, held, placed.op) {
             Some(behind) => held = behind,
             None => return Ok(false),
         }

@@ -1,6 +1,9 @@
 //! What the definition says of class files that were written by hand.
 
 use super::*;
+use classfile::read_class;
+use kes_text::Stop;
+use std::alloc::AllocError;
 use std::test::*;
 
 /// The class
@@ -17,8 +20,21 @@ const MAIN: [u8; 138] = [
     0x00, 0x0a, 0x57, 0xb1, 0x00, 0x00, 0x00, 0x00, 0x00, 0x00,
 ];
 
-fn spelled(op: Op, operands: u8) -> Spelled {
-    Spelled { op, operands }
+fn placed(pc: u16, op: Op) -> Placed {
+    Placed { pc, op }
+}
+
+/// The class of the form that a class file has, if the bytes are one.
+fn class_in(alloc: Global, bytes: &[u8]) -> Result<Option<FirstClass>, NoMemory> {
+    match read_class(alloc, bytes) {
+        Ok(class) => first_class(alloc, &class),
+        Err(Stop::Refused(_)) => Ok(None),
+        Err(Stop::NoMemory) => Err(AllocError),
+    }
+}
+
+fn is_of_form(alloc: Global, bytes: &[u8]) -> Result<bool, NoMemory> {
+    Ok(class_in(alloc, bytes)?.is_some())
 }
 
 /// One byte changed, and still of the form.
@@ -86,15 +102,6 @@ const UNLAWFUL: [(usize, u8, &str); 49] = [
     (137, 1, "an attribute of the class"),
 ];
 
-const FIELD_DESCRIPTORS: [&str; 5] = ["I", "J", "[[[D", "La;", "[Ljava/lang/String;"];
-
-const METHOD_DESCRIPTORS: [&str; 4] = ["()V", "()I", "([[Ljava/lang/String;IJ)V", "(DLa/b;)[Lc;"];
-
-const NO_DESCRIPTORS: [&str; 17] = [
-    "", "V", "II", "[", "[V", "L;", "La", "La.b;", "L/a;", "La//b;", "La/;", "L[a;", "()", "(V)V",
-    "(I", "I)V", "()VV",
-];
-
 fn with_byte(at: usize, byte: u8) -> [u8; 138] {
     let mut bytes = MAIN;
     if at < 138 {
@@ -105,7 +112,7 @@ fn with_byte(at: usize, byte: u8) -> [u8; 138] {
 
 #[test]
 fn example(rt: HostRuntime) -> Result<(), Fail> {
-    let class = read_class(rt.alloc(), &MAIN)?.ok_or("the form")?;
+    let class = class_in(rt.alloc(), &MAIN)?.ok_or("the form")?;
     assert_eq!(rt; class.name.as_slice(), b"Main".as_slice());
     assert_eq!(rt; class.native.as_slice(), b"again".as_slice());
     assert_eq!(rt; class.entry.as_slice(), b"run".as_slice());
@@ -114,9 +121,9 @@ fn example(rt: HostRuntime) -> Result<(), Fail> {
     assert_eq!(rt;
         class.code.as_slice(),
         [
-            spelled(Op::Invoke, 2),
-            spelled(Op::Pop, 0),
-            spelled(Op::Return, 0)
+            placed(0, Op::Invoke),
+            placed(3, Op::Pop),
+            placed(4, Op::Return)
         ]
         .as_slice()
     );
@@ -126,31 +133,11 @@ fn example(rt: HostRuntime) -> Result<(), Fail> {
 #[test]
 fn one_byte_changed(rt: HostRuntime) -> Result<(), Fail> {
     for (at, byte, what) in LAWFUL {
-        assert!(rt;
-            read_class(rt.alloc(), &with_byte(at, byte))?.is_some(),
-            "{what}"
-        );
+        assert!(rt; is_of_form(rt.alloc(), &with_byte(at, byte))?, "{what}");
     }
     for (at, byte, what) in UNLAWFUL {
-        assert!(rt;
-            read_class(rt.alloc(), &with_byte(at, byte))?.is_none(),
-            "{what}"
-        );
+        assert!(rt; !is_of_form(rt.alloc(), &with_byte(at, byte))?, "{what}");
     }
-    Ok(())
-}
-
-#[test]
-fn cut_and_continued(rt: HostRuntime) -> Result<(), Fail> {
-    for length in 0..MAIN.len() {
-        assert!(rt;
-            read_class(rt.alloc(), &MAIN[..length])?.is_none(),
-            "{length} bytes"
-        );
-    }
-    let mut longer = MAIN.to_vec(rt.alloc())?;
-    longer.push(0)?;
-    assert!(rt; read_class(rt.alloc(), &longer)?.is_none());
     Ok(())
 }
 
@@ -175,22 +162,14 @@ fn with_entries(alloc: Global, text: &[u8], entry: &[u8]) -> Result<Vec<u8>, NoM
     Ok(bytes)
 }
 
-const NAME_AND_TYPE: [u8; 5] = [12, 0, 5, 0, 12];
-
-const METHODREF: [u8; 5] = [10, 0, 1, 0, 11];
-
 const CLASS: [u8; 3] = [7, 0, 12];
 
 #[test]
 fn methods_in_either_order(rt: HostRuntime) -> Result<(), Fail> {
-    let class = read_class(rt.alloc(), &swapped_methods(rt.alloc())?)?.ok_or("the form")?;
+    let class = class_in(rt.alloc(), &swapped_methods(rt.alloc())?)?.ok_or("the form")?;
     assert_eq!(rt; class.native.as_slice(), b"again".as_slice());
     assert_eq!(rt; class.entry.as_slice(), b"run".as_slice());
     Ok(())
-}
-
-fn takes_entries(alloc: Global, text: &[u8], entry: &[u8]) -> Result<bool, NoMemory> {
-    Ok(read_class(alloc, &with_entries(alloc, text, entry)?)?.is_some())
 }
 
 /// Whether the example with an entry of this name is of the form.
@@ -201,7 +180,7 @@ fn takes_entry_name(alloc: Global, name: &str) -> Result<bool, NoMemory> {
     if place < bytes.len() {
         bytes[place] = 12;
     }
-    Ok(read_class(alloc, &bytes)?.is_some())
+    is_of_form(alloc, &bytes)
 }
 
 #[test]
@@ -213,89 +192,11 @@ fn names_of_initialisers(rt: HostRuntime) -> Result<(), Fail> {
 }
 
 #[test]
-fn unused_descriptors(rt: HostRuntime) -> Result<(), Fail> {
-    for text in FIELD_DESCRIPTORS {
-        assert!(rt;
-            takes_entries(rt.alloc(), text.as_bytes(), &NAME_AND_TYPE)?,
-            "{text}"
-        );
-    }
-    for text in METHOD_DESCRIPTORS {
-        assert!(rt;
-            takes_entries(rt.alloc(), text.as_bytes(), &NAME_AND_TYPE)?,
-            "{text}"
-        );
-    }
-    for text in NO_DESCRIPTORS {
-        assert!(rt;
-            !takes_entries(rt.alloc(), text.as_bytes(), &NAME_AND_TYPE)?,
-            "{text}"
-        );
-    }
-    Ok(())
-}
-
-#[test]
-fn unused_classes(rt: HostRuntime) -> Result<(), Fail> {
-    for (name, is_lawful) in [
-        ("any name", true),
-        ("[I", true),
-        ("[[La/b;", true),
-        ("[V", false),
-        ("[", false),
-    ] {
-        assert_eq!(rt;
-            takes_entries(rt.alloc(), name.as_bytes(), &CLASS)?,
-            is_lawful,
-            "{name}"
-        );
-    }
-    assert!(rt; takes_entries(rt.alloc(), b"I", &METHODREF)?);
-    Ok(())
-}
-
-fn repeated(
-    alloc: Global,
-    front: &str,
-    part: &str,
-    count: usize,
-    end: &str,
-) -> Result<Vec<u8>, NoMemory> {
-    let mut bytes = front.as_bytes().to_vec(alloc)?;
-    for _ in 0..count {
-        bytes.extend_from_slice(part.as_bytes())?;
-    }
-    bytes.extend_from_slice(end.as_bytes())?;
-    Ok(bytes)
-}
-
-#[test]
-fn limits_of_descriptors(rt: HostRuntime) -> Result<(), Fail> {
-    let cases = [
-        ("", "[", 255, "I", true),
-        ("", "[", 256, "I", false),
-        ("(", "I", 255, ")V", true),
-        ("(", "I", 256, ")V", false),
-        ("(", "J", 127, "I)V", true),
-        ("(", "J", 128, ")V", false),
-    ];
-    for (front, part, count, end, is_lawful) in cases {
-        let text = repeated(rt.alloc(), front, part, count, end)?;
-        assert_eq!(rt;
-            takes_entries(rt.alloc(), &text, &NAME_AND_TYPE)?,
-            is_lawful,
-            "{part} {count}"
-        );
-    }
-    Ok(())
-}
-
-#[test]
 fn pop_of_nothing(rt: HostRuntime) -> Result<(), Fail> {
     let mut bytes = MAIN[..127].to_vec(rt.alloc())?;
     bytes.extend_from_slice(&[0x57, 0xb8, 0, 10, 0xb1])?;
     bytes.extend_from_slice(&MAIN[132..])?;
-    assert!(rt; read_class(rt.alloc(), &bytes)?.is_none());
+    assert!(rt; !is_of_form(rt.alloc(), &bytes)?);
     Ok(())
 }
 
@@ -348,31 +249,31 @@ const UNLAWFUL_CODE: [(&[u8], &str); 9] = [
 
 #[test]
 fn arithmetic(rt: HostRuntime) -> Result<(), Fail> {
-    let class = read_class(rt.alloc(), &with_code(rt.alloc(), 2, 2, &ARITHMETIC)?)?.ok_or(
+    let class = class_in(rt.alloc(), &with_code(rt.alloc(), 2, 2, &ARITHMETIC)?)?.ok_or(
         "the form",
     )?;
     assert_eq!(rt;
         class.code.as_slice(),
         [
-            spelled(Op::Const(3), 0),
-            spelled(Op::Store(0), 0),
-            spelled(Op::Const(0xFFFF_FF80), 1),
-            spelled(Op::Load(0), 0),
-            spelled(Op::Add, 0),
-            spelled(Op::Store(1), 1),
-            spelled(Op::Const(0xFFFF_FF00), 2),
-            spelled(Op::Load(1), 1),
-            spelled(Op::Sub, 0),
-            spelled(Op::Const(2), 0),
-            spelled(Op::Mul, 0),
-            spelled(Op::Pop, 0),
-            spelled(Op::Return, 0)
+            placed(0, Op::Const(3)),
+            placed(1, Op::Store(0)),
+            placed(2, Op::Const(0xFFFF_FF80)),
+            placed(4, Op::Load(0)),
+            placed(5, Op::Add),
+            placed(6, Op::Store(1)),
+            placed(8, Op::Const(0xFFFF_FF00)),
+            placed(11, Op::Load(1)),
+            placed(13, Op::Sub),
+            placed(14, Op::Const(2)),
+            placed(15, Op::Mul),
+            placed(16, Op::Pop),
+            placed(17, Op::Return)
         ]
         .as_slice()
     );
     for (code, what) in UNLAWFUL_CODE {
         assert!(rt;
-            read_class(rt.alloc(), &with_code(rt.alloc(), 2, 1, code)?)?.is_none(),
+            !is_of_form(rt.alloc(), &with_code(rt.alloc(), 2, 1, code)?)?,
             "{what}"
         );
     }

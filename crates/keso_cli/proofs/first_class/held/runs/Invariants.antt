@@ -3,7 +3,7 @@ use Rattle.std.specs.Prelude.{replicate, false}
 use Rattle.keso_cli.specs.FirstForm.Operands.{runs}
 use Rattle.keso_cli.proofs.first_class.held.runs.Given as goal
 
-abbrev pub invariant-loop-spelled : goal.invariant-loop-spelled
-invariant-loop-spelled l =
-    runs l.max_stack l.held (drop l.spelled-index l.code)
+abbrev pub invariant-loop-placed : goal.invariant-loop-placed
+invariant-loop-placed l =
+    runs l.max_stack l.held (drop l.placed-index l.code)
     ≡ runs l.max_stack (record { depth = 0; stored = replicate l.max_locals false }) l.code
