@@ -9,4 +9,5 @@ pub mod Lines
 pub mod Methods
 pub mod Operands
 pub mod Program
+pub mod Reach
 pub mod Words

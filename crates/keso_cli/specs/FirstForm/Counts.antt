@@ -1,24 +1,26 @@
 -- What the four lines count of the methods that are reached.
-use Rattle.std.specs.Prelude.{◌≡◌, ℕ, Bool, false, List, [], Option, Some, None, length, count_by, sum_by, is_none}
-use Rattle.osek_core.specs.Bytecode.World.{Instruction, InvokeStatic, Located, Code, Member}
-use Rattle.osek_core.specs.Bytecode.Application.{Application, code_of, service_of}
+use Rattle.std.specs.Prelude.{◌≡◌, ◌≢◌, ◌↔◌, ℕ, List, Contains, AllPairs, length, map, count_by, sum_by, is_some}
+use Rattle.osek_core.specs.Bytecode.World.{Member}
+use Rattle.osek_core.specs.Bytecode.Application.{Application, Reached}
 use Rattle.keso_cli.specs.declared.summary.Summary.{Summary}
+use Rattle.keso_cli.specs.FirstForm.Reach.{IsReached, instructions_of, target_of}
 
--- a call of a method that isn't a service
-abbrev pub is_direct : Application → Instruction → Bool
-is_direct app (InvokeStatic method) = is_none (service_of app.config method)
-is_direct app other = false
-
-abbrev pub instructions_of : Option Code → List Located
-instructions_of None = []
-instructions_of (Some code) = code.instructions
-
+-- calls with a target
 abbrev pub direct_calls_in : Application → Member → ℕ
-direct_calls_in app method = count_by (λ located. is_direct app located.instruction) (instructions_of (code_of app.world method))
+direct_calls_in app method = count_by (λ located. is_some (target_of app located.instruction)) (instructions_of app method)
+
+-- The list has what is reached and nothing else, each once.
+pub record AreReached (app : Application) (reached : List Reached) : Type 0 where
+  pub are : (method : Reached) → IsReached app method ↔ Contains reached method
+  pub once : AllPairs (λ one another. one ≢ another) reached
 
 pub record CountsReached (app : Application) (summary : Summary) : Type 0 where
-  pub methods : summary.methods ≡ length app.methods
-  pub direct_calls : summary.direct_calls ≡ sum_by (direct_calls_in app) app.methods
+  pub reached : List Reached
+  pub all : AreReached app reached
+  -- the methods that events name by their number
+  pub named : app.methods ≡ map (λ r. r.method) reached
+  pub methods : summary.methods ≡ length reached
+  pub direct_calls : summary.direct_calls ≡ sum_by (λ r. direct_calls_in app r.method) reached
 
 -- one method, no check, and no call of a method
 abbrev pub first_summary : Summary
