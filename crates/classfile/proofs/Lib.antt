@@ -1,4 +1,4 @@
 pub mod Repeating
 pub mod Places
-pub mod Among
+pub mod Numbering
 pub mod Checking

@@ -1,5 +1,5 @@
 -- The places of a constant pool, one after the other, as a loop reads them.
-use Rattle.std.proofs.Common.{◌≡◌, ℕ, List, [], ◌∷◌, ◌++◌, Bool, Result, Ok, Err, refl}
+use Rattle.std.proofs.Common.{◌≡◌, ℕ, List, [], ◌∷◌, ◌++◌, Bool, Ok, Err, refl}
 use Rattle.kes_text.specs.declared.refusal.Stop.{Stop}
 use Rattle.kes_text.specs.declared.refusal.Stop.TheVariants.{Refused, NoMemory}
 use Rattle.classfile.specs.declared.pool.Entry.{Entry}

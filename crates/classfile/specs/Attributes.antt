@@ -1,5 +1,5 @@
 -- Attributes that are skipped, and those of fields (JVMS SE 8, 4.7, 4.7.2).
-use Rattle.std.specs.Prelude.{ℕ, ◌+◌, List, Option, Some, None, Bool, false, is_none, Result, Ok, unwrap_or, codes, bytes_eq, ◌&&◌, ◌==◌, if◌then◌else◌}
+use Rattle.std.specs.Prelude.{ℕ, ◌+◌, List, Option, Some, None, Bool, false, is_none, Result, Ok, codes, bytes_eq, ◌&&◌, ◌==◌, if◌then◌else◌}
 use Rattle.kes_text.specs.declared.refusal.Stop.{Stop}
 use Rattle.kes_text.specs.declared.refusal.Kind.TheVariants as kind
 use Rattle.classfile.specs.declared.uses.Wanted.TheVariants as wanted

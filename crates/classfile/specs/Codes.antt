@@ -1,5 +1,5 @@
 -- The Code of a method (JVMS SE 8, 4.7.3), with its first StackMapTable (4.7.4).
-use Rattle.std.specs.Prelude.{ℕ, List, Option, Some, None, Bool, is_none, Result, Ok, codes, nat_le, ◌&&◌, ◌==◌, if◌then◌else◌}
+use Rattle.std.specs.Prelude.{ℕ, List, Option, Some, None, is_none, Result, Ok, codes, nat_le, ◌&&◌, ◌==◌, if◌then◌else◌}
 use Rattle.kes_text.specs.declared.refusal.Stop.{Stop}
 use Rattle.kes_text.specs.declared.refusal.Kind.TheVariants as kind
 use Rattle.classfile.specs.declared.uses.Use.TheVariants as uses

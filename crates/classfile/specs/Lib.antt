@@ -8,3 +8,4 @@ pub mod Scan
 pub mod Faults
 pub mod Reading
 pub mod Seen
+pub mod Numbers

@@ -1,6 +1,5 @@
 -- Fields and methods (JVMS SE 8, 4.5 and 4.6).
-use Rattle.std.specs.Prelude.{ℕ, ℤ, ◌+◌, List, [], Option, Some, None, Bool, true, false, not, is_none, is_some, Result, Ok, unwrap_or, codes, bit_and, bytes_eq, ◌&&◌, ◌||◌, ◌==◌, if◌then◌else◌}
-use Rattle.kes_text.specs.declared.refusal.Stop.{Stop}
+use Rattle.std.specs.Prelude.{ℕ, ℤ, List, [], Option, Some, None, Bool, true, false, not, is_some, Ok, unwrap_or, codes, bit_and, bytes_eq, ◌||◌, ◌==◌, if◌then◌else◌}
 use Rattle.kes_text.specs.declared.refusal.Kind.TheVariants as kind
 use Rattle.classfile.specs.declared.uses.Use.TheVariants as uses
 use Rattle.classfile.specs.declared.uses.Wanted.{Wanted}

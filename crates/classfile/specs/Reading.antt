@@ -1,20 +1,19 @@
 -- A class file as its bytes say it (JVMS SE 8, 4.1), or its first fault.
-use Rattle.std.specs.Prelude.{ℕ, List, [], Option, Some, None, Bool, Result, Ok, Err, length, nat_le, codes, bytes_eq, ◌&&◌, ◌==◌, if◌then◌else◌}
+use Rattle.std.specs.Prelude.{ℕ, List, [], Option, Some, None, Result, Ok, Err, length, nat_le, codes, bytes_eq, ◌&&◌, ◌==◌, if◌then◌else◌}
 use Rattle.kes_text.specs.declared.refusal.Refusal.{Refusal}
 use Rattle.kes_text.specs.declared.refusal.Stop.{Stop}
 use Rattle.kes_text.specs.declared.refusal.Stop.TheVariants.{Refused}
 use Rattle.kes_text.specs.declared.refusal.Kind.TheVariants as kind
-use Rattle.classfile.specs.declared.uses.Use.{Use}
 use Rattle.classfile.specs.declared.uses.Use.TheVariants as uses
 use Rattle.classfile.specs.declared.uses.Wanted.TheVariants as wanted
 use Rattle.classfile.specs.declared.pool.Entry.{Entry}
 use Rattle.classfile.specs.ClassFile.{ClassInfo}
 use Rattle.classfile.specs.Pool.{class_name}
-use Rattle.classfile.specs.Scan.{Scan, Read, ◌>>=◌, refused, number_at, noted, index_at, many}
+use Rattle.classfile.specs.Scan.{Scan, Read, ◌>>=◌, refused, number_at, noted, anew, index_at, many}
 use Rattle.classfile.specs.Entries.{pool_at}
 use Rattle.classfile.specs.Attributes.{attributes_at}
 use Rattle.classfile.specs.Members.{fields_at, methods_at}
-use Rattle.classfile.specs.Faults.{first_fault}
+use Rattle.classfile.specs.Faults.{or_else, first_fault}
 
 -- magic, minor_version and major_version: the major version
 abbrev pub version_at : Scan → Read ℕ
@@ -70,19 +69,20 @@ body_at version pool s = do
   behind ← ended attributes
   Ok (record { version = version; flags = flags.0; name = class_named pool this.0; super_name = class_named pool super.0; interfaces = interfaces.0; fields = fields.0; methods = methods.0; pool = pool }, behind)
 
--- the first pass: the structure
-unfoldable pub structure_at : Scan → Read ClassInfo
+-- the first pass, the structure: the class, and the scans behind its constant pool and at its end
+unfoldable pub structure_at : Scan → Result (ClassInfo × Scan × Scan) Stop
 structure_at s = do
   version ← version_at s
   pool ← pool_at version.0 version.1
-  body_at version.0 pool.0 pool.1
+  class ← body_at version.0 pool.0 (anew pool.1)
+  Ok (class.0, pool.1, class.1)
 
 abbrev pub unless : {A : Type 0} → Option Refusal → A → Result A Stop
 unless None value = Ok value
 unless (Some fault) value = Err (Refused fault)
 
--- the second pass: what index fields name, and members that repeat
+-- the second pass: what index fields name, and members that repeat; those of the constant pool stand first
 abbrev pub class_file : List ℕ → Result ClassInfo Stop
 class_file bytes = do
   read ← structure_at (record { input = bytes; place = 0; uses = [] })
-  unless (first_fault read.0.pool [] read.1.uses) read.0
+  unless (or_else (first_fault read.0.pool [] read.1.uses) (first_fault read.0.pool [] read.2.uses)) read.0

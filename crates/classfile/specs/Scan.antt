@@ -51,6 +51,10 @@ number_at n s = do
 abbrev pub noted : Use → Scan → Scan
 noted one s = record s { uses = s.uses ++ one ∷ [] }
 
+-- the same place, with nothing passed over
+abbrev pub anew : Scan → Scan
+anew s = record s { uses = [] }
+
 -- an index field: a number of two bytes, and what it is to name
 abbrev pub index_at : Wanted → Scan → Read ℕ
 index_at wanted s = do

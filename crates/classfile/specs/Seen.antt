@@ -1,6 +1,5 @@
 -- Members by whether they are methods, their name and their descriptor.
-use Rattle.std.specs.Prelude.{ℕ, List, Option, Some, None, Bool, false, bytes_eq, ◌&&◌}
-use Rattle.std.specs.List.{list_any}
+use Rattle.std.specs.Prelude.{ℕ, List, Bool, bytes_eq, ◌&&◌}
 use mathlib.Core.Bool.{beq}
 
 -- whether a field or method, its name and its descriptor
@@ -9,8 +8,3 @@ Key = Bool × List ℕ × List ℕ
 
 abbrev pub is_same : Key → Key → Bool
 is_same key other = (beq key.0 other.0 && bytes_eq key.1 other.1) && bytes_eq key.2 other.2
-
--- whether a member, if there is one, is among these
-abbrev pub is_among : List Key → Option Key → Bool
-is_among keys None = false
-is_among keys (Some key) = list_any (is_same key) keys

@@ -1,9 +1,11 @@
 //! The second pass: what index fields name, and members that repeat.
 
 ghost use Rattle.std.specs.Prelude.{◌≡◌, [], IfOk};
-ghost use Rattle.classfile.specs.Faults.{place_of, fault_of_index, first_fault};
+ghost use Rattle.classfile.specs.Faults.{place_of, fault_of_index, first_fault, or_else};
+ghost use Rattle.classfile.specs.Numbers.{IsNumbering};
 
 use crate::faults::index_fault;
+use crate::numbers::Numbers;
 use crate::pool::Pool;
 use crate::seen::Seen;
 use crate::uses::Use;
@@ -32,11 +34,13 @@ fn fault_of_index(pool: &Pool<'_>, one: Use) -> Option<Refusal>
 }
 
 /// The first fault among index fields and members.
-pub fn first_fault(
+fn first_fault(
     alloc: Global,
     pool: &Pool<'_>,
+    numbers: &Numbers,
     uses: &[Use],
 ) -> Result<Option<Refusal>, NoMemory>
+    requires { IsNumbering pool.now numbers.now }
     ensures { IfOk result (λ found. found ≡ first_fault pool.now [] uses.now) }
 {
     let mut seen = Seen::new(alloc);
@@ -45,11 +49,27 @@ pub fn first_fault(
         if fault.is_some() {
             return Ok(fault);
         }
-        if !seen.note(pool, *one)? {
+        if !seen.note(pool, numbers, *one)? {
             let kind = Kind::TwoMembers;
             let at = place_of(*one);
             return Ok(Some(Refusal { file: 0, kind, at }));
         }
     }
     Ok(None)
+}
+
+/// The first fault among the index fields of the constant pool and among what stands behind it.
+pub fn first_of_both(
+    alloc: Global,
+    pool: &Pool<'_>,
+    in_pool: &[Use],
+    behind: &[Use],
+) -> Result<Option<Refusal>, NoMemory>
+    ensures { IfOk result (λ found. found ≡ or_else (first_fault pool.now [] in_pool.now) (first_fault pool.now [] behind.now)) }
+{
+    let numbers = Numbers::of(alloc, pool)?;
+    match first_fault(alloc, pool, &numbers, in_pool)? {
+        Some(fault) => Ok(Some(fault)),
+        None => first_fault(alloc, pool, &numbers, behind),
+    }
 }

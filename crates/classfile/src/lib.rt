@@ -13,6 +13,7 @@ mod members;
 #[cfg(test)]
 mod motor;
 mod names;
+mod numbers;
 mod pool;
 mod reading;
 mod rows;

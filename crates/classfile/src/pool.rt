@@ -51,6 +51,12 @@ impl<'a> Pool<'a> {
         Pool { entries }
     }
 
+    pub fn entries(&self) -> &[Entry<'a>]
+        ensures { result.now ≡ self.now }
+    {
+        self.entries.as_slice()
+    }
+
     pub fn entry(&self, index: u16) -> Option<&Entry<'a>>
         ensures { option_copied result ≡ entry_of self.now index }
     {

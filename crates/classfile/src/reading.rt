@@ -6,7 +6,7 @@ ghost use Rattle.classfile.specs.Reading.{version_at, class_named, super_at, int
 
 use crate::access::Access;
 use crate::attributes::attributes_at;
-use crate::checks::first_fault;
+use crate::checks::first_of_both;
 use crate::class::Class;
 use crate::entries::pool_at;
 use crate::members::{fields_at, methods_at};
@@ -132,14 +132,19 @@ fn body_at<'a>(
     Ok((class, scan))
 }
 
-/// The first pass: the structure of the file.
+/// The first pass: the structure of the file. The first scan stands behind the constant pool, and the
+/// second, which has passed over what stands behind that, at the end.
 #[tactic(auto, unfolding(crate::specs::Reading::structure_at))]
-pub fn structure_at<'a>(alloc: Global, scan: Scan<'a>) -> Result<(Class<'a>, Scan<'a>), Stop>
+pub fn structure_at<'a>(
+    alloc: Global,
+    scan: Scan<'a>,
+) -> Result<(Class<'a>, Scan<'a>, Scan<'a>), Stop>
     ensures { OrNoMemory result (structure_at scan.entry) }
 {
     let (version, scan) = version_at(scan)?;
     let (pool, scan) = pool_at(alloc, version, scan)?;
-    body_at(alloc, version, pool, scan)
+    let (class, end) = body_at(alloc, version, pool, scan.anew(alloc))?;
+    Ok((class, scan, end))
 }
 
 /// The class file that all of the bytes are (JVMS SE 8, 4.1 to 4.7), or why they are none.
@@ -153,8 +158,8 @@ pub fn structure_at<'a>(alloc: Global, scan: Scan<'a>) -> Result<(Class<'a>, Sca
 pub fn read_class(alloc: Global, bytes: &[u8]) -> Result<Class<'_>, Stop>
     ensures { OrNoMemory result (class_file bytes.now) }
 {
-    let (class, scan) = structure_at(alloc, Scan::new(alloc, bytes))?;
-    match first_fault(alloc, &class.pool, scan.uses())? {
+    let (class, behind_pool, end) = structure_at(alloc, Scan::new(alloc, bytes))?;
+    match first_of_both(alloc, &class.pool, behind_pool.uses(), end.uses())? {
         Some(fault) => Err(Stop::Refused(fault)),
         None => Ok(class),
     }

@@ -1,6 +1,6 @@
 ghost use Rattle.std.specs.Prelude.{◌≡◌, ◌==◌, ◌+◌, [], length, IfOk};
 ghost use Rattle.kes_text.specs.declared.refusal.Stop.TheVariants.{Refused};
-ghost use Rattle.classfile.specs.Scan.{bytes_at, number_at, noted, index_at, OrNoMemory};
+ghost use Rattle.classfile.specs.Scan.{anew, bytes_at, number_at, noted, index_at, OrNoMemory};
 
 use crate::slice::Slice;
 use crate::uses::{Use, Wanted};
@@ -66,6 +66,17 @@ impl<'a> Scan<'a> {
         ensures { result.now ≡ self.now.uses }
     {
         self.uses.as_slice()
+    }
+
+    /// The same place, with nothing passed over.
+    pub fn anew(&self, alloc: Global) -> Scan<'a>
+        ensures { result ≡ anew self.now }
+    {
+        Scan {
+            file: self.file,
+            at: self.at,
+            uses: Vec::new(alloc),
+        }
     }
 
     /// The next `count` bytes.

@@ -1,6 +1,6 @@
-use Rattle.std.proofs.Common.{◌≡◌, ◌-◌, ◌≤◌, ◌<◌, ◌∷◌, ◌++◌, [], Ok, refl, arith}
+use Rattle.std.proofs.Common.{◌-◌, ◌≤◌, ◌<◌, ◌∷◌, ◌++◌, [], Ok, refl, arith}
 use Rattle.std.proofs.lemmas.Result.{err_from_is_err_and}
-use Rattle.classfile.specs.Entries.{next_place, places_at, pool_at}
+use Rattle.classfile.specs.Entries.{next_place, places_at}
 use Rattle.classfile.proofs.Repeating.{goes_on, ends, done, behind_err}
 use Rattle.classfile.proofs.Places.{read_place, no_place}
 use Rattle.classfile.proofs.entries.pool_at.Goals as goal

@@ -1,4 +1,4 @@
-use Rattle.std.proofs.Common.{◌-◌, ◌≤◌, arith}
+use Rattle.std.proofs.Common.{◌≤◌, arith}
 use Rattle.std.proofs.lemmas.Result.{err_from_is_err_and}
 use Rattle.classfile.specs.Members.{method_attribute_at, all_method_attributes_at}
 use Rattle.classfile.proofs.Repeating.{goes_on, ends, done}
