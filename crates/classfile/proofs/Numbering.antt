@@ -53,8 +53,9 @@ no_text : (pool : List Entry) (numbers : List ℕ) (old new : Known) (i n : ℕ)
     → ((other : List ℕ) → number_in new other ≡ number_in old other) → IsTold pool numbers old i → IsTold pool (numbers ++ n ∷ []) new (i + 1)
 no_text pool numbers old new i n none same so_far = record {
   told = λ j a lt is. elim (place_of j i lt) [
-      inl before ↦ same a ∙ so_far.told j a before is ∙ ap (λ (k : ℕ). Some k) (sym (kept numbers n j i so_far.count before))
-    | inr here ↦ let bad : None ≡ Some a = sym none ∙ ap (text_in pool) (sym here) ∙ is in absurd cc ];
+    | inl before ↦ same a ∙ so_far.told j a before is ∙ ap (λ (k : ℕ). Some k) (sym (kept numbers n j i so_far.count before))
+    | inr here ↦ let bad : None ≡ Some a = sym none ∙ ap (text_in pool) (sym here) ∙ is in absurd cc
+  ];
   first = λ a m is. so_far.first a m (sym (same a) ∙ is);
   count = one_more numbers n i so_far.count;
 }
@@ -96,10 +97,11 @@ a_text pool numbers t old new i n here value has so_far =
     let is : n ≡ unwrap_or (number_in old t) i = value ∙ ap (unwrap_or (number_in old t)) so_far.count in
     record {
       told = λ j a lt stands. elim (place_of j i lt) [
-          inl before ↦ told_before pool numbers t old new i n j a (bytes_eq t a) refl has is (so_far.told j a before stands) ∙ ap (λ (k : ℕ). Some k) (sym (kept numbers n j i so_far.count before))
+        | inl before ↦ told_before pool numbers t old new i n j a (bytes_eq t a) refl has is (so_far.told j a before stands) ∙ ap (λ (k : ℕ). Some k) (sym (kept numbers n j i so_far.count before))
         | inr at ↦
             let one : t ≡ a = some_is t a (sym here ∙ ap (text_in pool) (sym at) ∙ stands) in
-            given t a n old new has ((bytes_eq-Decides t a).1 one) ∙ ap (λ (k : ℕ). Some k) (sym (ap (λ (k : ℕ). get_or (numbers ++ n ∷ []) k 0) at ∙ added numbers n i so_far.count)) ];
+            given t a n old new has ((bytes_eq-Decides t a).1 one) ∙ ap (λ (k : ℕ). Some k) (sym (ap (λ (k : ℕ). get_or (numbers ++ n ∷ []) k 0) at ∙ added numbers n i so_far.count))
+      ];
       first = λ a m found. first_of pool t old new i n a m (bytes_eq t a) refl has is here so_far.first found;
       count = one_more numbers n i so_far.count;
     }

@@ -9,3 +9,4 @@ pub mod Faults
 pub mod Reading
 pub mod Seen
 pub mod Numbers
+pub mod Worked

@@ -24,8 +24,10 @@ mod slice;
 mod tests;
 mod text;
 mod uses;
+mod worked;
 
 pub use access::Access;
 pub use class::{Class, Code, Field, Method};
 pub use member::{Constant, Member, MemberKind};
 pub use reading::read_class;
+pub use worked::{class_files, first_faults, pool_entries};

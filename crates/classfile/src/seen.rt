@@ -44,12 +44,7 @@ impl Seen {
     }
 
     /// One more use; whether it is no member that has been passed over.
-    pub fn note(
-        &mut self,
-        pool: &Pool<'_>,
-        numbers: &Numbers,
-        one: Use,
-    ) -> Result<bool, NoMemory>
+    pub fn note(&mut self, pool: &Pool<'_>, numbers: &Numbers, one: Use) -> Result<bool, NoMemory>
         ensures fresh { IfOk result (λ fresh. fresh ≡ not (is_among self.old (numbered pool.now numbers.now one))) }
         ensures members { OnOk result ((other : Numbered) → list_any (is_same_number other) self.new ≡ (is_numbered other (numbered pool.now numbers.now one) || list_any (is_same_number other) self.old)) }
     {

@@ -187,3 +187,10 @@ fn the_root_has_no_superclass(rt: HostRuntime) -> Result<(), Fail> {
     assert_eq!(rt; class.super_name(), b"".as_slice());
     Ok(())
 }
+
+#[test]
+fn worked_examples_are_computed() {
+    class_files();
+    pool_entries();
+    first_faults();
+}

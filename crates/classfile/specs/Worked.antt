@@ -1,0 +1,5 @@
+-- Worked examples, which the checker computes.
+pub mod Files
+pub mod ClassFiles
+pub mod PoolEntries
+pub mod Faults
