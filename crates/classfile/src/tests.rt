@@ -194,3 +194,50 @@ fn worked_examples_are_computed() {
     pool_entries();
     first_faults();
 }
+
+/// The first bytes of a class file whose constant pool has the classes A and B, an Utf8 with these bytes
+/// as number 5, and so many more places.
+fn begun(alloc: Global, text: &[u8], more: u16) -> Result<Vec<u8>, AllocError> {
+    let mut bytes = Vec::from_slice(alloc, &[0xca, 0xfe, 0xba, 0xbe, 0, 0, 0, 52])?;
+    bytes.extend_from_slice(&more.saturating_add(6).to_be_bytes())?;
+    bytes.extend_from_slice(b"\x01\x00\x01A\x07\x00\x01\x01\x00\x01B\x07\x00\x03\x01")?;
+    let length = u16::try_from(text.len()).unwrap_or(u16::MAX);
+    bytes.extend_from_slice(&length.to_be_bytes())?;
+    bytes.extend_from_slice(text)?;
+    Ok(bytes)
+}
+
+/// A descriptor of a class with a name of so many letters.
+fn long_descriptor(alloc: Global, letters: usize) -> Result<Vec<u8>, AllocError> {
+    let mut text = vec![in alloc; b'a'; letters]?;
+    text.insert(0, b'L')?;
+    text.push(b';')?;
+    Ok(text)
+}
+
+#[test]
+fn many_fields_share_one_long_descriptor(rt: HostRuntime) -> Result<(), Fail> {
+    let alloc = rt.alloc();
+    let descriptor = long_descriptor(alloc, 65000)?;
+    let mut bytes = begun(alloc, descriptor.as_slice(), 40000)?;
+    for number in 0..40000u16 {
+        let [high, low] = number.to_be_bytes();
+        bytes.extend_from_slice(&[1, 0, 2, high, low])?;
+    }
+    bytes.extend_from_slice(&[0, 0, 0, 2, 0, 4, 0, 0])?;
+    bytes.extend_from_slice(&40000u16.to_be_bytes())?;
+    for number in 6..40006u16 {
+        let [high, low] = number.to_be_bytes();
+        bytes.extend_from_slice(&[0, 0, high, low, 0, 5, 0, 0])?;
+    }
+    bytes.extend_from_slice(&[0, 0, 0, 0])?;
+    let class = read_class(alloc, bytes.as_slice())?;
+    assert_eq!(rt; class.fields().len(), 40000);
+    assert!(rt;
+        class
+            .fields()
+            .iter()
+            .all(|field| field.descriptor.len() == 65002)
+    );
+    Ok(())
+}
