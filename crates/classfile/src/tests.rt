@@ -241,3 +241,31 @@ fn many_fields_share_one_long_descriptor(rt: HostRuntime) -> Result<(), Fail> {
     );
     Ok(())
 }
+
+/// A class A with one native method m, which takes so many ints.
+fn with_ints(alloc: Global, parameters: usize, flags: u8) -> Result<Vec<u8>, AllocError> {
+    let mut descriptor = Vec::from_slice(alloc, b"(")?;
+    for _ in 0..parameters {
+        descriptor.push(b'I')?;
+    }
+    descriptor.extend_from_slice(b")V")?;
+    let mut bytes = begun(alloc, descriptor.as_slice(), 1)?;
+    bytes.extend_from_slice(b"\x01\x00\x01m")?;
+    bytes.extend_from_slice(&[0, 0, 0, 2, 0, 4, 0, 0, 0, 0, 0, 1])?;
+    bytes.extend_from_slice(&[1, flags, 0, 6, 0, 5, 0, 0, 0, 0])?;
+    Ok(bytes)
+}
+
+#[test]
+fn a_method_has_255_slots_with_its_receiver(rt: HostRuntime) -> Result<(), Fail> {
+    let alloc = rt.alloc();
+    let bytes = with_ints(alloc, 254, 0)?;
+    assert!(rt; read_class(alloc, bytes.as_slice()).is_ok());
+    let bytes = with_ints(alloc, 255, 0)?;
+    shows(&rt, bytes.as_slice(), alloc, Kind::BadDescriptor, 305);
+    let bytes = with_ints(alloc, 255, 8)?;
+    assert!(rt; read_class(alloc, bytes.as_slice()).is_ok());
+    let bytes = with_ints(alloc, 256, 8)?;
+    shows(&rt, bytes.as_slice(), alloc, Kind::BadDescriptor, 306);
+    Ok(())
+}
