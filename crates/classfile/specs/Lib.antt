@@ -9,4 +9,5 @@ pub mod Faults
 pub mod Reading
 pub mod Seen
 pub mod Numbers
+pub mod Sound
 pub mod Worked

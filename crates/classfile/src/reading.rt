@@ -1,7 +1,8 @@
 //! Reading a class file (JVMS SE 8, 4.1).
 
-ghost use Rattle.std.specs.Prelude.{◌≡◌};
+ghost use Rattle.std.specs.Prelude.{◌≡◌, IfOk};
 ghost use Rattle.classfile.specs.Scan.{OrNoMemory};
+ghost use Rattle.classfile.specs.Sound.{IsSound};
 ghost use Rattle.classfile.specs.Reading.{version_at, class_named, super_at, interface_at, interfaces_at, ended, body_at, structure_at, class_file};
 
 use crate::access::Access;
@@ -147,6 +148,17 @@ pub fn structure_at<'a>(
     Ok((class, scan, end))
 }
 
+/// The class file, or its first fault.
+fn class_of(alloc: Global, bytes: &[u8]) -> Result<Class<'_>, Stop>
+    ensures { OrNoMemory result (class_file bytes.now) }
+{
+    let (class, behind_pool, end) = structure_at(alloc, Scan::new(alloc, bytes))?;
+    match first_of_both(alloc, &class.pool, behind_pool.uses(), end.uses())? {
+        Some(fault) => Err(Stop::Refused(fault)),
+        None => Ok(class),
+    }
+}
+
 /// The class file that all of the bytes are (JVMS SE 8, 4.1 to 4.7), or why they are none.
 ///
 /// The first pass finds the first fault of structure in the file's order: Truncated, Magic, Version,
@@ -156,11 +168,10 @@ pub fn structure_at<'a>(
 /// a field and the first StackMapTable of a Code are passed over by their length. Time and memory are in
 /// proportion to the file's length; names and code are slices of the file.
 pub fn read_class(alloc: Global, bytes: &[u8]) -> Result<Class<'_>, Stop>
-    ensures { OrNoMemory result (class_file bytes.now) }
+    // What is answered is what the bytes say, or their first fault.
+    ensures exact { OrNoMemory result (class_file bytes.now) }
+    // No index of an accepted constant pool is broken: each class and member that it names is told.
+    ensures sound { IfOk result (λ class. IsSound class.pool) }
 {
-    let (class, behind_pool, end) = structure_at(alloc, Scan::new(alloc, bytes))?;
-    match first_of_both(alloc, &class.pool, behind_pool.uses(), end.uses())? {
-        Some(fault) => Err(Stop::Refused(fault)),
-        None => Ok(class),
-    }
+    class_of(alloc, bytes)
 }
