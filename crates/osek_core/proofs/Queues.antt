@@ -1,5 +1,5 @@
 -- One list of jobs with their priorities stands for the lists of all priorities.
-use Rattle.std.proofs.Common.{◌≡◌, ◌≢◌, ℕ, zero, suc, ◌+◌, ◌-◌, ◌<◌, ◌≤◌, nat_eq, List, [], ◌∷◌, ◌++◌, map, get_or, drop, set, fold, Option, Some, None, inl, inr, refl, sym, ap, ◌∙◌, subst, arith, position, slice_get, option_map, All, zero-add, append-nil}
+use Rattle.std.proofs.Common.{◌≡◌, ◌≢◌, ℕ, zero, suc, ◌+◌, ◌-◌, ◌<◌, ◌≤◌, nat_eq, List, [], ◌∷◌, ◌++◌, map, get_or, drop, set, fold, Option, Some, None, inl, inr, refl, sym, ap, ◌∙◌, subst, arith, Bool, true, false, if◌then◌else◌, length, sum_by, position, slice_get, option_map, All, IsSome, zero-add, append-nil}
 use Rattle.std.specs.List.{range_with_len, position_from, remove}
 use Rattle.std.proofs.Math.Nat.{sub-zero}
 use Rattle.std.proofs.lemmas.Iterator.Adapters.{position_from-zero}
@@ -7,11 +7,13 @@ use Rattle.std.proofs.lemmas.Bool.{cases_lt}
 use Rattle.std.proofs.lemmas.Bool.Decides.{eqb_tells, leb_tells}
 use Rattle.std.proofs.lemmas.List.Elements.{filter-append}
 use Rattle.std.proofs.lemmas.List.{map-append}
+use Rattle.std.proofs.lemmas.List.Sums.{sum_by-set, sum_by-cons}
 use Rattle.std.proofs.lemmas.List.FromFn.{get_or-map-range_with_len}
 use Rattle.osek_core.specs.declared.scheduler.Job.{Job}
-use Rattle.osek_core.specs.Core.Queue.{queue, queues, higher, top_job, without_first}
+use Rattle.osek_core.specs.Core.Queue.{queue, queues, higher, top_job, without, without_first, with_first_moved}
 use Rattle.osek_core.specs.Kernel.Scheduler.{first_job}
 use Rattle.osek_core.specs.Kernel.State.{priorities}
+use Rattle.osek_core.specs.Kernel.Invariant.{count_of}
 
 -- the job is the first of the highest priority among these
 pub record IsTop (jobs : List Job) (top : Job) : Type 0 where
@@ -184,24 +186,91 @@ pub jobs-at : (jobs : List Job) (p : ℕ) → p < priorities → get_or (queues 
 jobs-at jobs p lt = get_or-map-range_with_len (queue jobs) 0 priorities p p [] lt (omega arith)
 
 -- what `remove` takes out
-pub remove-first : (jobs : List Job) (p i : ℕ) → position (λ job. nat_eq job.priority p) jobs ≡ Some i → remove jobs i ≡ without_first jobs p
-remove-first jobs p i e = let h = from 0 jobs (sym (position_from-zero _ jobs) ∙ e) in subst (λ j. remove jobs j ≡ without_first jobs p) (sub-zero i) h.1
+pub remove-without : {X : Type 0} (test : X → Bool) (xs : List X) (i : ℕ) → position test xs ≡ Some i → remove xs i ≡ without test xs
+remove-without {X} test xs i e = let h = from 0 xs (sym (position_from-zero test xs) ∙ e) in subst (λ j. remove xs j ≡ without test xs) (sub-zero i) h.1
   where
-    from : (n : ℕ) (rest : List Job) → position_from (λ job. nat_eq job.priority p) n rest ≡ Some i → (n ≤ i) × (remove rest (i - n) ≡ without_first rest p)
+    from : (n : ℕ) (rest : List X) → position_from test n rest ≡ Some i → (n ≤ i) × (remove rest (i - n) ≡ without test rest)
     from n [] e = absurd cc
-    from n (job ∷ rest) e =
-        elim (eqb_tells job.priority p) [
-          | inl h ↦ let same : n ≡ i = let k = rw h.0 at e in cc in let none : i - i ≡ 0 = omega arith in rw (h.0, same) (omega arith, rw none refl)
-          | inr h ↦ let more = from (n + 1) rest (rw h.0 at e) in let next : i - n ≡ suc (i - (n + 1)) = omega (arith, more.0) in (omega (arith, more.0), rw (h.0, next) (ap (λ r. job ∷ r) more.1))
-        ]
+    from n (x ∷ rest) e = by (test x) refl (from (n + 1) rest)
+      where
+        by : (t : Bool) → test x ≡ t → (position_from test (n + 1) rest ≡ Some i → (n + 1 ≤ i) × (remove rest (i - (n + 1)) ≡ without test rest)) → (n ≤ i) × (remove (x ∷ rest) (i - n) ≡ without test (x ∷ rest))
+        by true t later =
+            let same : n ≡ i = let k = rw t at e in cc in
+            let none : i - n ≡ 0 = omega (arith, same) in
+            (omega (arith, same), rw (none, t) refl)
+        by false t later =
+            let more = later (rw t at e) in
+            let next : i - n ≡ suc (i - (n + 1)) = omega (arith, more.0) in
+            (omega (arith, more.0), rw (next, t) (ap (λ r. x ∷ r) more.1))
 
-pub without-none : (jobs : List Job) (p : ℕ) → position (λ job. nat_eq job.priority p) jobs ≡ None → without_first jobs p ≡ jobs
-without-none jobs p e = from 0 jobs (sym (position_from-zero _ jobs) ∙ e)
+pub without-none : {X : Type 0} (test : X → Bool) (xs : List X) → position test xs ≡ None → without test xs ≡ xs
+without-none {X} test xs e = from 0 xs (sym (position_from-zero test xs) ∙ e)
   where
-    from : (n : ℕ) (rest : List Job) → position_from (λ job. nat_eq job.priority p) n rest ≡ None → without_first rest p ≡ rest
+    from : (n : ℕ) (rest : List X) → position_from test n rest ≡ None → without test rest ≡ rest
     from n [] e = refl
-    from n (job ∷ rest) e =
-        elim (eqb_tells job.priority p) [
-          | inl h ↦ let k = rw h.0 at e in cc
-          | inr h ↦ rw h.0 (ap (λ r. job ∷ r) (from (n + 1) rest (rw h.0 at e)))
-        ]
+    from n (x ∷ rest) e = by (test x) refl (from (n + 1) rest)
+      where
+        by : (t : Bool) → test x ≡ t → (position_from test (n + 1) rest ≡ None → without test rest ≡ rest) → without test (x ∷ rest) ≡ x ∷ rest
+        by true t later = let k = rw t at e in absurd cc
+        by false t later = rw t (ap (λ r. x ∷ r) (later (rw t at e)))
+
+-- what holds of each item holds of those that stay
+pub All-cons : {X : Type 0} (P : X → Type 0) (x : X) (xs : List X) → P x → All P xs → All P (x ∷ xs)
+All-cons P x xs h each zero d l = h
+All-cons P x xs h each (suc k) d l = each k d (omega arith)
+
+pub without-All : {X : Type 0} (P : X → Type 0) (test : X → Bool) (xs : List X) → All P xs → All P (without test xs)
+without-All P test [] h = h
+without-All {X} P test (x ∷ xs) h = by (test x) refl (without-All P test xs)
+  where
+    later : All P xs
+    later k d l = h (suc k) d (omega arith)
+
+    by : (t : Bool) → test x ≡ t → (All P xs → All P (without test xs)) → All P (without test (x ∷ xs))
+    by true t rest = rw t later
+    by false t rest = rw t (All-cons P x (without test xs) (h 0 x (omega arith)) (rest later))
+
+-- a job more, before all others
+pub queues-first : (jobs : List Job) (job : Job) → queues (job ∷ jobs) ≡ set (queues jobs) job.priority (job.task ∷ queue jobs job.priority)
+queues-first jobs job =
+    let p = job.priority in
+    let here : queue (job ∷ jobs) (0 + p) ≡ job.task ∷ queue jobs p = ap (queue (job ∷ jobs)) (zero-add p) ∙ queue-same job jobs p refl in
+    subst (λ v. queues (job ∷ jobs) ≡ set (queues jobs) p v) here
+    (map-range-set (queue jobs) (queue (job ∷ jobs)) 0 priorities p (λ q ne. queue-other job jobs q (omega arith)))
+
+-- all lists together have the jobs of the one
+pub queues-total : (jobs : List Job) → All (λ job. job.priority < priorities) jobs → sum_by length (queues jobs) ≡ length jobs
+queues-total [] below = refl
+queues-total (job ∷ jobs) below =
+    let lt = below 0 job (omega arith) in
+    let more = queues-total jobs (λ k d l. below (suc k) d (omega arith)) in
+    let at = jobs-at jobs job.priority lt in
+    let sum = sum_by-set length (queues jobs) job.priority (job.task ∷ queue jobs job.priority) [] lt in
+    ap (sum_by length) (queues-first jobs job) ∙ omega (arith, ap length at, more, sum)
+
+-- a job stands in the list of its priority
+pub job-counted : (jobs : List Job) (k : ℕ) (d : Job) → k < length jobs → 1 ≤ count_of (get_or jobs k d).task (queue jobs (get_or jobs k d).priority)
+job-counted [] k d lt = absurd (omega arith)
+job-counted (job ∷ jobs) zero d lt =
+    rw (queue-same job jobs job.priority refl) (let h = sum_by-cons (λ y. if nat_eq job.task y then 1 else 0) job.task (queue jobs job.priority) in
+    elim (eqb_tells job.task job.task) [ inl t ↦ let m = rw t.0 at h in omega (arith, m) | inr t ↦ absurd (t.1 refl) ])
+job-counted (job ∷ jobs) (suc k) d lt =
+    let t = (get_or jobs k d).task in
+    let p = (get_or jobs k d).priority in
+    let more = job-counted jobs k d (omega arith) in
+    elim (eqb_tells job.priority p) [
+      | inl h ↦ rw h.0 (let s = sum_by-cons (λ y. if nat_eq t y then 1 else 0) job.task (queue jobs p) in omega (arith, s, more))
+      | inr h ↦ rw h.0 more
+    ]
+
+-- a list with a first job has one less without it
+pub without-shorter : (jobs : List Job) (p : ℕ) → IsSome (slice_get (queue jobs p) 0) → length (without_first jobs p) + 1 ≡ length jobs
+without-shorter [] p e = absurd cc
+without-shorter (job ∷ jobs) p e =
+    elim (eqb_tells job.priority p) [
+      | inl h ↦ rw h.0 (omega arith)
+      | inr h ↦ let more = without-shorter jobs p (subst (λ q. IsSome (slice_get q 0)) (queue-other job jobs p h.1) e) in rw h.0 (omega (arith, more))
+    ]
+
+pub moved-same : (jobs : List Job) (before after task : ℕ) → before ≢ after → record { task = task; priority = after } ∷ without_first jobs before ≡ with_first_moved jobs before after task
+moved-same jobs before after task ne = elim (eqb_tells before after) [ inl h ↦ absurd (ne h.1) | inr h ↦ rw h.0 refl ]

@@ -14,3 +14,4 @@ pub mod Tick
 pub mod Start
 pub mod System
 pub mod Invariant
+pub mod Coherent

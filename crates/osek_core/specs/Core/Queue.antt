@@ -1,11 +1,10 @@
 -- The lists of jobs as `Core` keeps them: one list of jobs, each with its current priority. Those of one priority
 -- stand in their order.
-use Rattle.std.specs.Prelude.{ℕ, List, [], ◌∷◌, map, filter, fold, nat_eq, nat_lt, Option, Some, None, if◌then◌else◌, slice_set, slice_index_or}
+use Rattle.std.specs.Prelude.{ℕ, Bool, List, [], ◌∷◌, map, filter, fold, nat_eq, nat_lt, Option, Some, None, if◌then◌else◌, slice_set, slice_index_or}
 use Rattle.std.specs.List.{range_with_len}
 use Rattle.osek_core.specs.declared.control.TaskControl.{TaskControl}
 use Rattle.osek_core.specs.declared.control.TaskState.TheVariants.{Running}
 use Rattle.osek_core.specs.declared.scheduler.Job.{Job}
-use Rattle.osek_core.specs.declared.scheduler.Holding.{Holding}
 use Rattle.osek_core.specs.Kernel.Scheduler.{idle}
 use Rattle.osek_core.specs.Kernel.State.{priorities}
 
@@ -25,10 +24,14 @@ higher (Some first) job = if nat_lt first.priority job.priority then Some job el
 abbrev pub top_job : List Job → Option Job
 top_job jobs = fold higher None jobs
 
+-- the list without the first item that passes the test
+abbrev pub without : {X : Type 0} → (X → Bool) → List X → List X
+without test [] = []
+without test (x ∷ xs) = if test x then xs else x ∷ without test xs
+
 -- the jobs without the first one of this priority
 abbrev pub without_first : List Job → ℕ → List Job
-without_first [] priority = []
-without_first (job ∷ jobs) priority = if nat_eq job.priority priority then jobs else job ∷ without_first jobs priority
+without_first jobs priority = without (λ job. nat_eq job.priority priority) jobs
 
 -- the control blocks when the task of the first job of the highest priority runs
 abbrev pub with_top_running : List TaskControl → List Job → List TaskControl
@@ -38,6 +41,7 @@ with_top_running controls jobs = run (top_job jobs)
     run None = controls
     run (Some job) = slice_set controls job.task (record (slice_index_or controls job.task idle) { state = Running })
 
--- the resources that the task holds, of all that are held
-abbrev pub resources_of : List Holding → ℕ → List ℕ
-resources_of holdings task = map (λ holding. holding.resource) (filter (λ holding. nat_eq holding.task task) holdings)
+-- the jobs after the first one of a priority became the first of another, where they differ
+abbrev pub with_first_moved : List Job → ℕ → ℕ → ℕ → List Job
+with_first_moved jobs before after task =
+    if nat_eq before after then jobs else record { task = task; priority = after } ∷ without_first jobs before

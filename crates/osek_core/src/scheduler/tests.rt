@@ -76,3 +76,55 @@ fn task_that_is_not_preempted_goes_on(rt: HostRuntime) -> Result<(), Fail> {
     assert_eq!(rt; core.running(), Some(1));
     Ok(())
 }
+
+#[test]
+fn task_chains_itself(rt: HostRuntime) -> Result<(), Fail> {
+    let mut core = Core::new(rt.alloc(), &[LOW, LOW], &[])?;
+    assert_eq!(rt; core.activate(0), 0);
+    assert_eq!(rt; core.activate(1), 0);
+    core.dispatch();
+    assert_eq!(rt; core.running(), Some(0));
+    assert_eq!(rt; core.chain(0), 0);
+    core.dispatch();
+    assert_eq!(rt; core.running(), Some(1));
+    assert_eq!(rt; core.chain(0), 4);
+    Ok(())
+}
+
+#[test]
+fn resource_raises_its_holder_to_the_ceiling(rt: HostRuntime) -> Result<(), Fail> {
+    let high = TaskRule { priority: 5, ..LOW };
+    let mut core = Core::new(rt.alloc(), &[LOW, high], &[5])?;
+    assert_eq!(rt; core.activate(0), 0);
+    core.dispatch();
+    assert_eq!(rt; core.running(), Some(0));
+    assert_eq!(rt; core.get_resource(0), 0);
+    assert_eq!(rt; core.activate(1), 0);
+    core.dispatch();
+    assert_eq!(rt; core.running(), Some(0));
+    assert_eq!(rt; core.release_resource(0), 0);
+    core.dispatch();
+    assert_eq!(rt; core.running(), Some(1));
+    Ok(())
+}
+
+#[test]
+fn task_waits_until_one_of_its_events_is_set(rt: HostRuntime) -> Result<(), Fail> {
+    let extended = TaskRule {
+        extended: true,
+        ..LOW
+    };
+    let mut core = Core::new(rt.alloc(), &[extended], &[])?;
+    assert_eq!(rt; core.set_event(0, 1), 7);
+    assert_eq!(rt; core.activate(0), 0);
+    core.dispatch();
+    assert_eq!(rt; core.running(), Some(0));
+    assert_eq!(rt; core.wait_event(6), 0);
+    core.dispatch();
+    assert_eq!(rt; core.running(), None);
+    assert_eq!(rt; core.set_event(0, 4), 0);
+    core.dispatch();
+    assert_eq!(rt; core.running(), Some(0));
+    assert_eq!(rt; core.get_event(0), Ok(4));
+    Ok(())
+}

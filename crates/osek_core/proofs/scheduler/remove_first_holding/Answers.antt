@@ -1,0 +1,13 @@
+use Rattle.std.proofs.Common.{◌∙◌, sym, nat_eq}
+use Rattle.osek_core.proofs.Queues.{remove-without, without-none}
+use Rattle.osek_core.proofs.scheduler.remove_first_holding.Goals as goal
+
+pub returns-in-Some-clause-items : goal.returns-in-Some-clause-items
+returns-in-Some-clause-items c =
+    let e = remove-without (λ holding. nat_eq holding.task c.args.task) c.deref.result.now c.in-Some.place (sym c.first_holding.ensures.place ∙ c.in-Some.is) in
+    cc
+
+pub returns-in_default-clause-items : goal.returns-in_default-clause-items
+returns-in_default-clause-items c =
+    let e = without-none (λ holding. nat_eq holding.task c.args.task) c.deref.result.now (sym c.first_holding.ensures.place ∙ c.in_default.is) in
+    cc
