@@ -1,0 +1,4 @@
+pub mod Steps
+pub mod Ticks
+pub mod Starts
+pub mod News
