@@ -1,0 +1,4 @@
+pub mod PieceLemmas
+pub mod ManyLemmas
+pub mod LeastLemmas
+pub mod FixedLemmas
