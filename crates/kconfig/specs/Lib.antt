@@ -1,0 +1,13 @@
+pub mod Said
+pub mod TextLines
+pub mod Numbers
+pub mod Words
+pub mod Config
+pub mod Limits
+pub mod Names
+pub mod Devices
+pub mod Tasks
+pub mod Alarms
+pub mod Methods
+pub mod Kept
+pub mod Reading
