@@ -1,4 +1,5 @@
-ghost use Rattle.std.specs.Prelude.{◌≤◌};
+ghost use Rattle.std.specs.Prelude.{◌≡◌, ◌≤◌, IfOk, None, length};
+ghost use Rattle.osek_model.specs.Call.{IsCallOf};
 
 use super::*;
 use osek_core::{CounterRule, TaskRule};
@@ -37,8 +38,7 @@ const ROUND: CounterRule = CounterRule {
 
 /// Tasks 0 and 1 of one priority, of which 0 waits, 2 above them, and 3 that isn't preempted; alarm 0 activates task 2,
 /// alarm 1 sets event 0 of task 0.
-fn rig(alloc: Global, autos: [bool; 4], start: Option<Start>) -> Result<Kernel, AllocError>
-    requires { start ≡ None }
+fn rig(alloc: Global, autos: [bool; 4]) -> Result<Kernel, AllocError>
     ensures tasks { IfOk result (λ kernel. 4 ≤ length kernel.plan.rules.tasks) }
     ensures resources { IfOk result (λ kernel. 2 ≤ length kernel.plan.rules.ceilings) }
     ensures alarms { IfOk result (λ kernel. 2 ≤ length kernel.plan.clock.alarms) }
@@ -53,7 +53,7 @@ fn rig(alloc: Global, autos: [bool; 4], start: Option<Start>) -> Result<Kernel, 
         time: Time::new(alloc, &[ROUND], &[0, 0])?,
         autos: Vec::from_slice(alloc, &autos)?,
         actions: Vec::from_slice(alloc, &actions)?,
-        starts: Vec::from_slice(alloc, &[start, start])?,
+        starts: Vec::from_slice(alloc, &[None, None])?,
         suspended: false,
         shut: false,
     })
@@ -71,10 +71,31 @@ fn serve(kernel: &mut Kernel, call: Call) -> Option<i32>
 }
 
 #[test]
-fn preempted_job_goes_on_before_its_equals(rt: HostRuntime) -> Result<(), Fail> {
-    let mut kernel = rig(rt.alloc(), [true, true, false, false], None)?;
+fn kernel_without_objects_idles(rt: HostRuntime) -> Result<(), Fail> {
+    let alloc = rt.alloc();
+    let tables = Tables {
+        events: Items::new(alloc),
+        resources: Items::new(alloc),
+        counters: Items::new(alloc),
+        tasks: Items::new(alloc),
+        alarms: Items::new(alloc),
+    };
+    let mut kernel = Kernel::new(alloc, &tables)?;
     kernel.start();
-    assert_eq!(rt; kernel.running(), Some(0));
+    assert_eq!(rt; kernel.running(), None);
+    kernel.suspend();
+    assert!(rt; kernel.suspended());
+    kernel.resume();
+    assert!(rt; !kernel.suspended());
+    kernel.shutdown();
+    assert!(rt; kernel.shut());
+    Ok(())
+}
+
+#[test]
+fn preempted_job_goes_on_before_its_equals(rt: HostRuntime) -> Result<(), Fail> {
+    let mut kernel = rig(rt.alloc(), [true, true, false, false])?;
+    kernel.start();
     assert_eq!(rt;
         serve(
             &mut kernel,
@@ -93,5 +114,146 @@ fn preempted_job_goes_on_before_its_equals(rt: HostRuntime) -> Result<(), Fail> 
     assert_eq!(rt; serve(&mut kernel, Call::GetAlarm { alarm: 0 }), Some(-5));
     assert_eq!(rt; serve(&mut kernel, Call::TerminateTask), Some(0));
     assert_eq!(rt; kernel.running(), Some(0));
+    Ok(())
+}
+
+#[test]
+fn resource_raises_its_holder_until_it_is_released(rt: HostRuntime) -> Result<(), Fail> {
+    let mut kernel = rig(rt.alloc(), [false, true, false, false])?;
+    kernel.start();
+    assert_eq!(rt;
+        serve(&mut kernel, Call::GetResource { resource: 1 }),
+        Some(0)
+    );
+    assert_eq!(rt;
+        serve(&mut kernel, Call::GetResource { resource: 0 }),
+        Some(0)
+    );
+    assert_eq!(rt; serve(&mut kernel, Call::ActivateTask { task: 2 }), Some(0));
+    assert_eq!(rt; kernel.running(), Some(1));
+    assert_eq!(rt;
+        serve(&mut kernel, Call::ReleaseResource { resource: 1 }),
+        Some(5)
+    );
+    assert_eq!(rt;
+        serve(&mut kernel, Call::ReleaseResource { resource: 0 }),
+        Some(0)
+    );
+    assert_eq!(rt; kernel.running(), Some(2));
+    Ok(())
+}
+
+#[test]
+fn task_that_is_not_preempted_gives_way_itself(rt: HostRuntime) -> Result<(), Fail> {
+    let mut kernel = rig(rt.alloc(), [false, false, false, true])?;
+    kernel.start();
+    assert_eq!(rt; serve(&mut kernel, Call::ActivateTask { task: 2 }), Some(0));
+    assert_eq!(rt; kernel.running(), Some(3));
+    assert_eq!(rt; serve(&mut kernel, Call::Schedule), Some(0));
+    assert_eq!(rt; kernel.running(), Some(2));
+    assert_eq!(rt; serve(&mut kernel, Call::ChainTask { task: 1 }), Some(0));
+    assert_eq!(rt; serve(&mut kernel, Call::WaitEvent { mask: 1 }), Some(0));
+    assert_eq!(rt; kernel.running(), Some(1));
+    Ok(())
+}
+
+#[test]
+fn activations_queue_up_to_their_limit(rt: HostRuntime) -> Result<(), Fail> {
+    let mut kernel = rig(rt.alloc(), [false, true, false, false])?;
+    kernel.start();
+    assert_eq!(rt; serve(&mut kernel, Call::ActivateTask { task: 1 }), Some(0));
+    assert_eq!(rt; serve(&mut kernel, Call::ActivateTask { task: 1 }), Some(4));
+    assert_eq!(rt; serve(&mut kernel, Call::ChainTask { task: 1 }), Some(0));
+    assert_eq!(rt; serve(&mut kernel, Call::TerminateTask), Some(0));
+    assert_eq!(rt; kernel.running(), Some(1));
+    assert_eq!(rt; serve(&mut kernel, Call::TerminateTask), Some(0));
+    assert_eq!(rt; kernel.running(), None);
+    Ok(())
+}
+
+#[test]
+fn events_are_set_before_during_and_after_a_wait(rt: HostRuntime) -> Result<(), Fail> {
+    let mut kernel = rig(rt.alloc(), [true, true, false, false])?;
+    kernel.start();
+    assert_eq!(rt;
+        serve(&mut kernel, Call::SetEvent { task: 0, mask: 1 }),
+        Some(0)
+    );
+    assert_eq!(rt; serve(&mut kernel, Call::WaitEvent { mask: 1 }), Some(0));
+    assert_eq!(rt; serve(&mut kernel, Call::ClearEvent { mask: 1 }), Some(0));
+    assert_eq!(rt; serve(&mut kernel, Call::WaitEvent { mask: 1 }), Some(0));
+    assert_eq!(rt; kernel.running(), Some(1));
+    assert_eq!(rt;
+        serve(&mut kernel, Call::SetEvent { task: 0, mask: 2 }),
+        Some(0)
+    );
+    assert_eq!(rt;
+        serve(&mut kernel, Call::SetEvent { task: 0, mask: 1 }),
+        Some(0)
+    );
+    assert_eq!(rt; serve(&mut kernel, Call::GetEvent { task: 0 }), Some(3));
+    assert_eq!(rt; serve(&mut kernel, Call::TerminateTask), Some(0));
+    assert_eq!(rt; kernel.running(), Some(0));
+    Ok(())
+}
+
+#[test]
+fn refused_actions_of_alarms_are_lost(rt: HostRuntime) -> Result<(), Fail> {
+    let mut kernel = rig(rt.alloc(), [false, true, false, false])?;
+    kernel.start();
+    assert_eq!(rt;
+        serve(
+            &mut kernel,
+            Call::SetAbsAlarm {
+                alarm: 0,
+                first: 1,
+                cycle: 2
+            }
+        ),
+        Some(0)
+    );
+    assert_eq!(rt;
+        serve(
+            &mut kernel,
+            Call::SetRelAlarm {
+                alarm: 1,
+                first: 1,
+                cycle: 0
+            }
+        ),
+        Some(0)
+    );
+    assert_eq!(rt; kernel.tick(0), 2);
+    assert_eq!(rt; kernel.running(), Some(2));
+    assert_eq!(rt; kernel.tick(0), 0);
+    assert_eq!(rt; kernel.tick(0), 1);
+    assert_eq!(rt; serve(&mut kernel, Call::CancelAlarm { alarm: 0 }), Some(0));
+    assert_eq!(rt; serve(&mut kernel, Call::CancelAlarm { alarm: 1 }), Some(5));
+    Ok(())
+}
+
+#[test]
+fn absolute_alarm_waits_for_the_counter_to_wrap(rt: HostRuntime) -> Result<(), Fail> {
+    let mut kernel = rig(rt.alloc(), [false, true, false, false])?;
+    kernel.start();
+    assert_eq!(rt;
+        serve(
+            &mut kernel,
+            Call::SetAbsAlarm {
+                alarm: 0,
+                first: 0,
+                cycle: 0
+            }
+        ),
+        Some(0)
+    );
+    assert_eq!(rt; serve(&mut kernel, Call::GetAlarm { alarm: 0 }), Some(5));
+    assert_eq!(rt; kernel.tick(0), 0);
+    assert_eq!(rt; kernel.tick(0), 0);
+    assert_eq!(rt; kernel.tick(0), 0);
+    assert_eq!(rt; kernel.tick(0), 0);
+    assert_eq!(rt; kernel.running(), Some(1));
+    assert_eq!(rt; kernel.tick(0), 0);
+    assert_eq!(rt; kernel.running(), Some(2));
     Ok(())
 }
