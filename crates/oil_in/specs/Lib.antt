@@ -5,3 +5,4 @@ pub mod Objects
 pub mod Tasks
 pub mod Alarms
 pub mod Reading
+pub mod Worked

@@ -8,5 +8,9 @@ mod pieces;
 mod reading;
 mod scan;
 mod tasks;
+#[cfg(test)]
+mod tests;
+mod worked;
 
 pub use reading::read_oil;
+pub use worked::{first_faults, objects_are_read, pieces_are_read};
