@@ -2,3 +2,10 @@ pub mod PieceLemmas
 pub mod ManyLemmas
 pub mod LeastLemmas
 pub mod FixedLemmas
+pub mod Inversion
+pub mod TextOfForms
+pub mod TextOfObjects
+pub mod TextOfRows
+pub mod TextOfTasks
+pub mod TextOfAlarms
+pub mod TextOfAll

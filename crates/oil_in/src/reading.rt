@@ -1,6 +1,7 @@
 //! The whole text.
 
-ghost use Rattle.std.specs.Prelude.{◌≡◌, map};
+ghost use Rattle.std.specs.Prelude.{◌≡◌, map, IfOk};
+ghost use Rattle.oil_out.specs.OilText.{oil_text};
 ghost use Rattle.oil_in.specs.Scan.{Answers};
 ghost use Rattle.oil_in.specs.Reading.{opening_lines, fixed_lines, closed_at, objects_at, oil_read};
 
@@ -88,17 +89,28 @@ fn objects_at(alloc: Global, scan: Scan<'_>) -> Result<(Tables, Scan<'_>), Stop>
     Ok((tables, scan))
 }
 
-/// The tables that an OIL text says (OIL 2.5, section 3), or why it says none.
-///
-/// The first line with a fault is refused, by the first of Syntax, Range, Room, Twice and Unknown that it
-/// shows. Where the text ends too early, that is Syntax at the line behind its last. A refusal has 0 for
-/// its file, which the caller sets. Time is in proportion to the text's length.
+/// The tables that the text says.
 #[tactic(auto, unfolding(crate::specs::Reading::oil_read))]
-pub fn read_oil(alloc: Global, text: &[u8]) -> Result<Tables, Stop>
+fn oil_of(alloc: Global, text: &[u8]) -> Result<Tables, Stop>
     ensures { Answers (λ tables. tables) result (oil_read text.now) }
 {
     let scan = opened_at(Scan::new(text))?;
     let (tables, scan) = objects_at(alloc, scan)?;
     closed_at(scan)?;
     Ok(tables)
+}
+
+/// The tables that an OIL text says (OIL 2.5, section 3), or why it says none.
+///
+/// The first line with a fault is refused, by the first of Syntax, Range, Room, Twice and Unknown that it
+/// shows. Where the text ends too early, that is Syntax at the line behind its last. A refusal has 0 for
+/// its file, which the caller sets. Time is in proportion to the text's length.
+pub fn read_oil(alloc: Global, text: &[u8]) -> Result<Tables, Stop>
+    // Which tables, or which fault it is, unless memory runs out.
+    ensures exact { Answers (λ tables. tables) result (oil_read text.now) }
+
+    // What is read is what is printed of the tables, each byte of it.
+    ensures printed { IfOk result (λ tables. text.now ≡ oil_text tables) }
+{
+    oil_of(alloc, text)
 }

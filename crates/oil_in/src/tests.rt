@@ -129,78 +129,81 @@ fn the_stored_example_has_one_task(rt: HostRuntime) -> Result<(), Fail> {
     Ok(())
 }
 
+/// Lines in the place of others, with the fault that each shows.
+const FAULTS: &[(u64, &str, Kind)] = &[
+    (1, "OIL_VERSION = \"2.4\";\n", Kind::Syntax),
+    (15, "  APPMODE  mode { };\n", Kind::Syntax),
+    (16, "  EVENT e_9 {\n", Kind::Syntax),
+    (
+        16,
+        "  EVENT e_a234567890123456789012345678901x3 {\n",
+        Kind::Syntax,
+    ),
+    (17, "    MASK = 01;\n", Kind::Syntax),
+    (17, "    MASK = ;\n", Kind::Syntax),
+    (17, "    MASK = 4;\n", Kind::Syntax),
+    (17, "    MASK = 18446744073709551616;\n", Kind::Range),
+    (17, "    MASK = 018446744073709551616;\n", Kind::Syntax),
+    (18, "  }\n", Kind::Syntax),
+    (19, "  EVENT e_go {\n", Kind::Twice),
+    (23, "    RESOURCEPROPERTY = LINKED;\n", Kind::Syntax),
+    (25, "  RESOURCE r_bus {\n", Kind::Twice),
+    (29, "    MAXALLOWEDVALUE = 2147483648;\n", Kind::Range),
+    (29, "    MAXALLOWEDVALUE = 0;\n", Kind::Range),
+    (30, "    TICKSPERBASE = 65536;\n", Kind::Range),
+    (33, "  COUNTER c_ms {\n", Kind::Twice),
+    (36, "    MINCYCLE = 360;\n", Kind::Range),
+    (39, "    PRIORITY = 64;\n", Kind::Range),
+    (39, "    PRIORITY = 00;\n", Kind::Syntax),
+    (40, "    SCHEDULE = HALF;\n", Kind::Syntax),
+    (41, "    ACTIVATION = 0;\n", Kind::Range),
+    (41, "    ACTIVATION = 16;\n", Kind::Range),
+    (42, "    AUTOSTART = TRUE;\n", Kind::Syntax),
+    (44, "  TASK t_idle {\n", Kind::Twice),
+    (50, "    RESOURCE = r_bus;\n", Kind::Syntax),
+    (50, "    RESOURCE = r_none;\n", Kind::Unknown),
+    (52, "    EVENT = e_go;\n", Kind::Syntax),
+    (52, "    EVENT = e_bus;\n", Kind::Unknown),
+    (55, "    COUNTER = c_ns;\n", Kind::Unknown),
+    (55, "    COUNTER = c_9;\n", Kind::Syntax),
+    (
+        56,
+        "    ACTION = ACTIVATETASK { TASK = t_none; };\n",
+        Kind::Unknown,
+    ),
+    (
+        56,
+        "    ACTION = SETEVENT { TASK = t_idle; EVENT = e_halt; };\n",
+        Kind::Unknown,
+    ),
+    (56, "    ACTION = ALARMCALLBACK { };\n", Kind::Syntax),
+    (59, "  ALARM a_beat {\n", Kind::Twice),
+    (
+        62,
+        "    AUTOSTART = TRUE { ALARMTIME = 360; CYCLETIME = 0; APPMODE = mode; };\n",
+        Kind::Range,
+    ),
+    (
+        62,
+        "    AUTOSTART = TRUE { ALARMTIME = 0; CYCLETIME = 0; APPMODE = mode; };\n",
+        Kind::Range,
+    ),
+    (
+        62,
+        "    AUTOSTART = TRUE { ALARMTIME = 7; CYCLETIME = 4; APPMODE = mode; };\n",
+        Kind::Range,
+    ),
+    (64, "}; \n", Kind::Syntax),
+    (64, "};", Kind::Syntax),
+    (64, "", Kind::Syntax),
+];
+
 #[test]
 fn each_line_has_its_faults(rt: HostRuntime) -> Result<(), Fail> {
-    for (number, line, kind) in [
-        (1, "OIL_VERSION = \"2.4\";\n", Kind::Syntax),
-        (15, "  APPMODE  mode { };\n", Kind::Syntax),
-        (16, "  EVENT e_9 {\n", Kind::Syntax),
-        (
-            16,
-            "  EVENT e_a234567890123456789012345678901x3 {\n",
-            Kind::Syntax,
-        ),
-        (17, "    MASK = 01;\n", Kind::Syntax),
-        (17, "    MASK = ;\n", Kind::Syntax),
-        (17, "    MASK = 4;\n", Kind::Syntax),
-        (17, "    MASK = 18446744073709551616;\n", Kind::Range),
-        (17, "    MASK = 018446744073709551616;\n", Kind::Syntax),
-        (18, "  }\n", Kind::Syntax),
-        (19, "  EVENT e_go {\n", Kind::Twice),
-        (23, "    RESOURCEPROPERTY = LINKED;\n", Kind::Syntax),
-        (25, "  RESOURCE r_bus {\n", Kind::Twice),
-        (29, "    MAXALLOWEDVALUE = 2147483648;\n", Kind::Range),
-        (29, "    MAXALLOWEDVALUE = 0;\n", Kind::Range),
-        (30, "    TICKSPERBASE = 65536;\n", Kind::Range),
-        (33, "  COUNTER c_ms {\n", Kind::Twice),
-        (36, "    MINCYCLE = 360;\n", Kind::Range),
-        (39, "    PRIORITY = 64;\n", Kind::Range),
-        (39, "    PRIORITY = 00;\n", Kind::Syntax),
-        (40, "    SCHEDULE = HALF;\n", Kind::Syntax),
-        (41, "    ACTIVATION = 0;\n", Kind::Range),
-        (41, "    ACTIVATION = 16;\n", Kind::Range),
-        (42, "    AUTOSTART = TRUE;\n", Kind::Syntax),
-        (44, "  TASK t_idle {\n", Kind::Twice),
-        (50, "    RESOURCE = r_bus;\n", Kind::Syntax),
-        (50, "    RESOURCE = r_none;\n", Kind::Unknown),
-        (52, "    EVENT = e_go;\n", Kind::Syntax),
-        (52, "    EVENT = e_bus;\n", Kind::Unknown),
-        (55, "    COUNTER = c_ns;\n", Kind::Unknown),
-        (55, "    COUNTER = c_9;\n", Kind::Syntax),
-        (
-            56,
-            "    ACTION = ACTIVATETASK { TASK = t_none; };\n",
-            Kind::Unknown,
-        ),
-        (
-            56,
-            "    ACTION = SETEVENT { TASK = t_idle; EVENT = e_halt; };\n",
-            Kind::Unknown,
-        ),
-        (56, "    ACTION = ALARMCALLBACK { };\n", Kind::Syntax),
-        (59, "  ALARM a_beat {\n", Kind::Twice),
-        (
-            62,
-            "    AUTOSTART = TRUE { ALARMTIME = 360; CYCLETIME = 0; APPMODE = mode; };\n",
-            Kind::Range,
-        ),
-        (
-            62,
-            "    AUTOSTART = TRUE { ALARMTIME = 0; CYCLETIME = 0; APPMODE = mode; };\n",
-            Kind::Range,
-        ),
-        (
-            62,
-            "    AUTOSTART = TRUE { ALARMTIME = 7; CYCLETIME = 4; APPMODE = mode; };\n",
-            Kind::Range,
-        ),
-        (64, "}; \n", Kind::Syntax),
-        (64, "};", Kind::Syntax),
-        (64, "", Kind::Syntax),
-    ] {
-        let text = with_line(rt.alloc(), number, line)?;
+    for (number, line, kind) in FAULTS {
+        let text = with_line(rt.alloc(), *number, line)?;
         let refusal = refusal_of(rt.alloc(), text.as_slice());
-        assert_eq!(rt; refusal, Some((kind, number)), "at {number}");
+        assert_eq!(rt; refusal, Some((*kind, *number)), "at {number}");
     }
     Ok(())
 }
