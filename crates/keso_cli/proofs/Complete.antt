@@ -8,6 +8,8 @@ use Rattle.std.proofs.lemmas.List.Elements.{All-nil, All-cons}
 use Rattle.classfile.specs.ClassFile.{ClassInfo}
 use Rattle.classfile.specs.Pool.{◌>>=◌}
 use Rattle.classfile.specs.Reading.{class_file}
+use Rattle.kconfig.specs.declared.config.Config.{Config}
+use Rattle.keso_cli.specs.Configuration.{configuration}
 use Rattle.kes_outside.specs.Contents.{Contents}
 use Rattle.kes_text.specs.declared.refusal.Refusal.{Refusal}
 use Rattle.kes_text.specs.declared.refusal.Stop.{Stop}
@@ -20,7 +22,7 @@ use Rattle.keso_cli.specs.declared.first_class.FirstClass.{FirstClass}
 use Rattle.keso_cli.specs.FirstForm.Class.{class_of}
 use Rattle.keso_cli.specs.FirstForm.Config.{config_of}
 use Rattle.keso_cli.specs.FirstForm.Fits.{if_they_fit, first_form}
-use Rattle.keso_cli.specs.Refusals.{fault_of, later, refusal_of}
+use Rattle.keso_cli.specs.Refusals.{fault_of, first_fault, later, refusal_of}
 use Rattle.keso_cli.specs.Request.{Request, Build}
 use Rattle.keso_cli.specs.Stands.{Outside, Stands, ReadFaultStands}
 use Rattle.keso_cli.proofs.Headline.Inversion.{none_is_some}
@@ -32,18 +34,24 @@ some_back (x ∷ xs) = ap (λ ys. x ∷ ys) (some_back xs)
 some_same : (xs ys : List (List ℕ)) → map Some xs ≡ map Some ys → xs ≡ ys
 some_same xs ys e = sym (some_back xs) ∙ ap (map (λ o. unwrap_or o [])) e ∙ some_back ys
 
--- what fits is a class file without a fault
-no_fault : (config : Option FirstConfig) (number : ℕ) (read : Result ClassInfo Stop) (said : FirstConfig × FirstClass)
-    → if_they_fit config (result_ok read >>= class_of) ≡ Some said → fault_of number read ≡ None
-no_fault config number (Ok class) said e = refl
-no_fault None number (Err stop) said e = absurd (none_is_some said e)
-no_fault (Some config) number (Err stop) said e = absurd (none_is_some said e)
+never_fits : (config : Option FirstConfig) → if_they_fit config None ≡ None
+never_fits None = refl
+never_fits (Some config) = refl
+
+-- what fits is a configuration and a class file without a fault
+no_faults : (config : Result Config Stop) (class : Result ClassInfo Stop) (said : FirstConfig × FirstClass)
+    → if_they_fit (result_ok config >>= config_of) (result_ok class >>= class_of) ≡ Some said → (fault_of 0 config ≡ None) × (fault_of 1 class ≡ None)
+no_faults (Ok config) (Ok class) said e = (refl, refl)
+no_faults (Ok config) (Err stop) said e = absurd (none_is_some said (sym (never_fits (config_of config)) ∙ e))
+no_faults (Err stop) class said e = absurd (none_is_some said e)
 
 of_form_stands : (text : List ℕ) (classes : List (List ℕ)) (said : FirstConfig × FirstClass) → first_form text classes ≡ Some said → refusal_of text classes ≡ None
+unfolding refusal_of
 of_form_stands text [] said e = absurd (none_is_some said e)
 of_form_stands text (bytes ∷ []) said e =
-    let without : fault_of 1 (class_file bytes) ≡ None = no_fault (config_of text) 1 (class_file bytes) said e in
-    ap (λ fault. option_or (option_or fault None) (if is_none (first_form text (bytes ∷ [])) then Some later else None)) without
+    let without = no_faults (configuration text) (class_file bytes) said e in
+    ap (λ fault. option_or (option_or fault (first_fault 1 (bytes ∷ []))) (if is_none (first_form text (bytes ∷ [])) then Some later else None)) without.0
+    ∙ ap (λ fault. option_or (option_or fault None) (if is_none (first_form text (bytes ∷ [])) then Some later else None)) without.1
     ∙ ap (λ (form : Option (FirstConfig × FirstClass)). if is_none form then Some later else None) e
 of_form_stands text (bytes ∷ next ∷ more) said e = absurd (none_is_some said e)
 

@@ -1,7 +1,7 @@
 pub mod Builds
 pub mod Complete
-pub mod ConfigWords
 pub mod OneByOne
+pub mod Refusing
 pub mod Troubles
 pub mod Writes
 pub mod Headline

@@ -4,10 +4,7 @@ pub mod Code
 pub mod Config
 pub mod Counts
 pub mod Fits
-pub mod LineViews
-pub mod Lines
 pub mod Methods
 pub mod Operands
 pub mod Program
 pub mod Reach
-pub mod Words

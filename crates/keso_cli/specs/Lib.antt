@@ -2,6 +2,7 @@ pub mod Asked
 pub mod BuildEnds
 pub mod CommandEnds
 pub mod Complete
+pub mod Configuration
 pub mod Due
 pub mod ExitCode
 pub mod FirstForm

@@ -1,8 +1,8 @@
 -- Where the steps of a build stop.
-use Rattle.std.specs.Prelude.{◌≡◌, ℕ, List, Some, IfSome, IsSomeAnd, string_bytes}
-use Rattle.classfile.specs.Reading.{class_file}
+use Rattle.std.specs.Prelude.{◌≡◌, ℕ, List, Some, Result, IfSome, IsSomeAnd, string_bytes}
 use Rattle.kes_outside.specs.Contents.{OthersStay}
 use Rattle.kes_outside.specs.Count.{Rose}
+use Rattle.kes_text.specs.declared.refusal.Stop.{Stop}
 use Rattle.keso_cli.specs.declared.trouble.Trouble.{Trouble}
 use Rattle.keso_cli.specs.declared.trouble.Trouble.TheVariants.{CannotRead, Refused, CannotWrite, CannotWriteOutput, NoMemory}
 use Rattle.keso_cli.specs.Texts.{Text}
@@ -16,11 +16,11 @@ ReadStops (CannotRead read) name before after = (read.now ≡ name) × CannotBeR
 ReadStops NoMemory name before after = Unit {0}
 ReadStops _ name before after = ⊥
 
--- The class file of this name has a fault.
-abbrev pub ClassStops : Trouble → List ℕ → List ℕ → Type 0
-ClassStops (Refused refusal refused) name bytes = (refused.now ≡ name) × (fault_of 1 (class_file bytes) ≡ Some refusal)
-ClassStops NoMemory name bytes = Unit {0}
-ClassStops _ name bytes = ⊥
+-- The file of this number and name has a fault.
+abbrev pub FileStops : {A : Type 0} → Trouble → ℕ → List ℕ → Result A Stop → Type 0
+FileStops (Refused refusal refused) number name read = (refused.now ≡ name) × (fault_of number read ≡ Some refusal)
+FileStops NoMemory number name read = Unit {0}
+FileStops _ number name read = ⊥
 
 -- The input of these names, a configuration's text and the bytes of classes, isn't compiled.
 abbrev pub CompileStops : Trouble → List ℕ → List (List ℕ) → List ℕ → List (List ℕ) → Type 0

@@ -3,23 +3,26 @@ ghost use Rattle.std.specs.Option.{option_map};
 ghost use Rattle.keso_cli.specs.declared.config.FirstConfig.{FirstConfig};
 ghost use Rattle.keso_cli.specs.declared.first_class.FirstClass.{FirstClass};
 ghost use Rattle.keso_cli.specs.Due.{AreTextsOf};
+ghost use Rattle.classfile.specs.ClassFile.{ClassInfo};
 ghost use Rattle.classfile.specs.Reading.{class_file};
+ghost use Rattle.kconfig.specs.declared.config.Config.{Config};
+ghost use Rattle.keso_cli.specs.Configuration.{configuration};
 ghost use Rattle.keso_cli.specs.FirstForm.Class.{class_of};
 ghost use Rattle.keso_cli.specs.FirstForm.Config.{config_of};
-ghost use Rattle.keso_cli.specs.FirstForm.Fits.{fits, if_they_fit, first_form};
+ghost use Rattle.keso_cli.specs.FirstForm.Fits.{fits, has_dot, if_they_fit, first_form};
 ghost use Rattle.keso_cli.specs.FirstForm.Program.{built_of};
 ghost use Rattle.keso_cli.specs.Said.{said};
-ghost use Rattle.keso_cli.specs.Stops.{ClassStops, CompileStops};
+ghost use Rattle.keso_cli.specs.Stops.{FileStops, CompileStops};
 
 use crate::built::Built;
-use crate::config::{FirstConfig, read_config};
-use crate::config_words::is_object_name;
+use crate::config::{FirstConfig, first_config};
 use crate::emit::{emit, shown_method};
 use crate::first_class::{FirstClass, first_class};
 use crate::trouble::Trouble;
 use crate::words::Build;
 use c_out::print_c;
-use classfile::{Class, read_class};
+use classfile::read_class;
+use kconfig::read_config;
 use kes_text::{Kind, NoMemory, Refusal, Stop};
 use mapfile::print_map;
 use oil_out::print_oil;
@@ -47,6 +50,13 @@ struct FirstInput {
     class: FirstClass,
 }
 
+/// Whether a method's name has a dot: in `CLASS.NAME` the last one parts the two.
+fn has_dot(name: &[u8]) -> bool
+    ensures { result ≡ has_dot name.now }
+{
+    name.iter().any(|byte| *byte == b'.')
+}
+
 /// Whether the configuration and the class belong together.
 fn fits(alloc: Global, config: &FirstConfig, class: &FirstClass) -> Result<bool, NoMemory>
     ensures { IfOk result (λ answer. answer ≡ fits config.now class.now) }
@@ -56,34 +66,54 @@ fn fits(alloc: Global, config: &FirstConfig, class: &FirstClass) -> Result<bool,
     let shown_native = shown_method(alloc, name, class.native.as_slice(), "()I")?;
     Ok(
         !name.is_empty()
-            && is_object_name(entry)
+            && !has_dot(entry)
             && config.entry.as_slice() == shown_entry.as_slice()
             && config.method.as_slice() == shown_native.as_slice(),
     )
 }
 
-/// What the class file of this name says.
-fn class_of<'c, 'a>(alloc: Global, name: &'a str, bytes: &'c [u8]) -> Result<Class<'c>, Trouble<'a>>
-    ensures ok { IfOk result (λ class. class_file bytes.now ≡ Ok class) }
-    ensures stop { IfErr result (λ trouble. ClassStops trouble name.now bytes.now) }
+/// The configuration of the first form that the text of this name is, or None where it is another.
+#[tactic(auto, unfolding(crate::specs::Configuration::configuration))]
+fn config_in<'a>(
+    alloc: Global,
+    name: &'a str,
+    text: &[u8],
+) -> Result<Option<FirstConfig>, Trouble<'a>>
+    ensures ok { IfOk result (λ found. (config : Config) × (configuration text.now ≡ Ok config) × (config_of config ≡ found)) }
+    ensures stop { IfErr result (λ trouble. FileStops trouble 0 name.now (configuration text.now)) }
+{
+    match read_config(alloc, text) {
+        Ok(config) => Ok(first_config(alloc, &config)?),
+        Err(Stop::Refused(fault)) => Err(Trouble::Refused(Refusal { file: 0, ..fault }, name)),
+        Err(Stop::NoMemory) => Err(Trouble::NoMemory),
+    }
+}
+
+/// The class of the first form that the class file of this name is, or None where it is another.
+fn class_in<'a>(
+    alloc: Global,
+    name: &'a str,
+    bytes: &[u8],
+) -> Result<Option<FirstClass>, Trouble<'a>>
+    ensures ok { IfOk result (λ found. (class : ClassInfo) × (class_file bytes.now ≡ Ok class) × (class_of class ≡ found)) }
+    ensures stop { IfErr result (λ trouble. FileStops trouble 1 name.now (class_file bytes.now)) }
 {
     match read_class(alloc, bytes) {
-        Ok(class) => Ok(class),
+        Ok(class) => Ok(first_class(alloc, &class)?),
         Err(Stop::Refused(fault)) => Err(Trouble::Refused(Refusal { file: 1, ..fault }, name)),
         Err(Stop::NoMemory) => Err(Trouble::NoMemory),
     }
 }
 
-/// The input, if it is of the first form.
+/// The input, if both are of the first form and belong together.
 fn first_input(
     alloc: Global,
-    config: &[u8],
-    class: &Class<'_>,
+    config: Option<FirstConfig>,
+    class: Option<FirstClass>,
 ) -> Result<Option<FirstInput>, NoMemory>
-    ensures { IfOk result (λ found. option_map said found ≡ if_they_fit (config_of config.now) (class_of class.now)) }
+    ensures { IfOk result (λ found. option_map said found ≡ if_they_fit config class) }
 {
-    let (Some(config), Some(class)) = (read_config(alloc, config)?, first_class(alloc, class)?)
-    else {
+    let (Some(config), Some(class)) = (config, class) else {
         return Ok(None);
     };
     if fits(alloc, &config, &class)? {
@@ -104,8 +134,8 @@ fn texts_of(alloc: Global, built: &Built) -> Result<Texts, NoMemory>
     })
 }
 
-/// The texts of an input of the first form. A class file that has a fault is refused under its name, and
-/// any other input under the configuration's.
+/// The texts of an input of the first form. A configuration or a class file that has a fault is refused
+/// under its name, and any other input under the configuration's.
 pub fn compile<'a>(
     alloc: Global,
     names: Build<'a>,
@@ -116,8 +146,9 @@ pub fn compile<'a>(
         × (first_form config.now (class.now ∷ []) ≡ Some (first, second)) × AreTextsOf (built_of first second) texts) }
     ensures stop { IfErr result (λ trouble. CompileStops trouble names.entry.config.now (names.entry.class.now ∷ []) config.now (class.now ∷ [])) }
 {
-    let class = class_of(alloc, names.class, class)?;
-    let Some(input) = first_input(alloc, config, &class)? else {
+    let config = config_in(alloc, names.config, config)?;
+    let class = class_in(alloc, names.class, class)?;
+    let Some(input) = first_input(alloc, config, class)? else {
         return Err(Trouble::Refused(LATER, names.config));
     };
     let built = emit(alloc, &input.config, &input.class)?;

@@ -1,12 +1,10 @@
-ghost use Rattle.std.specs.Prelude.{◌≡◌, ◌∷◌, [], IfOk};
-ghost use Rattle.std.specs.Option.{option_map};
-ghost use Rattle.keso_cli.specs.FirstForm.Config.{joined, config_of_lines, config_of};
-ghost use Rattle.keso_cli.specs.FirstForm.LineViews.{domain_view, task_view, native_view};
+//! Configurations of the first form.
 
-use crate::config_lines::{
-    DomainLine, NativeLine, TaskLine, domain_of, native_of, order_of, task_of,
-};
-use kes_text::{Cursor, NoMemory};
+ghost use Rattle.std.specs.Prelude.{◌≡◌, true, IfOk};
+ghost use Rattle.keso_cli.specs.FirstForm.Config.{has_no_more, activates_first, are_bounded, config_with, config_of};
+
+use kconfig::{Config, DomainLine, NativeLine, Service, TaskLine};
+use kes_text::NoMemory;
 use sqlite_items::Items;
 use std::alloc::Global;
 
@@ -15,7 +13,6 @@ use std::alloc::Global;
 pub struct FirstConfig {
     /// Whether the high byte of a number comes first.
     pub big: bool,
-    pub domain: Items<u8>,
     /// In bytes, a multiple of 8 up to 8,388,608.
     pub heap: u32,
     pub task: Items<u8>,
@@ -31,67 +28,85 @@ pub struct FirstConfig {
     pub method: Items<u8>,
 }
 
-/// The lines joined, if the task is of the domain and the native activates the task.
-fn joined(
+const MAX_HEAP: u64 = 8_388_608;
+
+/// Whether there are no devices, and no lines of kinds that the first form hasn't.
+fn has_no_more(config: &Config) -> bool
+    ensures { result ≡ has_no_more config.now }
+{
+    config.devices.line == 0
+        && config.counters.is_empty()
+        && config.events.is_empty()
+        && config.resources.is_empty()
+        && config.uses.is_empty()
+        && config.waits.is_empty()
+        && config.alarms.is_empty()
+        && config.starts.is_empty()
+        && config.cells.is_empty()
+        && config.objects.is_empty()
+        && config.device_methods.is_empty()
+        && config.portals.is_empty()
+}
+
+/// Whether it is ActivateTask of the first task.
+fn activates_first(service: Service) -> bool
+    ensures { result ≡ activates_first service }
+{
+    match service {
+        Service::ActivateTask { task } => task == 0,
+        _ => false,
+    }
+}
+
+/// Whether the numbers are within the bounds that a configuration's have.
+fn are_bounded(domain: &DomainLine, task: &TaskLine) -> bool
+    ensures { result ≡ are_bounded domain.now task.now }
+{
+    domain.heap <= MAX_HEAP && task.prio <= 63 && 1 <= task.acts && task.acts <= 15
+}
+
+/// The configuration of these lines.
+fn config_with(
     alloc: Global,
     big: bool,
-    domain: DomainLine<'_>,
-    task: TaskLine<'_>,
-    native: NativeLine<'_>,
-) -> Result<Option<FirstConfig>, NoMemory>
-    ensures { IfOk result (λ found. found ≡ joined big (domain_view domain.entry) (task_view task.entry) (native_view native.entry)) }
+    domain: &DomainLine,
+    task: &TaskLine,
+    native: &NativeLine,
+) -> Result<FirstConfig, NoMemory>
+    requires { are_bounded domain.now task.now ≡ true }
+    ensures { IfOk result (λ made. made ≡ config_with big domain.now task.now native.now) }
 {
-    if task.domain != domain.name || native.task != task.name {
-        return Ok(None);
-    }
-    Ok(Some(FirstConfig {
+    Ok(FirstConfig {
         big,
-        domain: Items::from_slice(alloc, domain.name)?,
-        heap: domain.heap,
-        task: Items::from_slice(alloc, task.name)?,
-        priority: task.priority,
-        activations: task.activations,
+        heap: domain.heap as u32,
+        task: Items::from_slice(alloc, task.name.as_slice())?,
+        priority: task.prio as u8,
+        activations: task.acts as u8,
         auto: task.auto,
         full: task.full,
-        entry: Items::from_slice(alloc, task.entry)?,
-        method: Items::from_slice(alloc, native.method)?,
-    }))
+        entry: Items::from_slice(alloc, task.entry.as_slice())?,
+        method: Items::from_slice(alloc, native.method.as_slice())?,
+    })
 }
 
-fn config_of_four(
-    alloc: Global,
-    first: &[u8],
-    second: &[u8],
-    third: &[u8],
-    fourth: &[u8],
-) -> Result<Option<FirstConfig>, NoMemory>
-    ensures { IfOk result (λ found. found ≡ config_of_lines (first.now ∷ second.now ∷ third.now ∷ fourth.now ∷ [])) }
+/// The configuration of the first form that the configuration is, or None where it is none.
+#[tactic(auto, unfolding(crate::specs::FirstForm::Config::config_of))]
+pub fn first_config(alloc: Global, config: &Config) -> Result<Option<FirstConfig>, NoMemory>
+    ensures { IfOk result (λ found. found ≡ config_of config.now) }
 {
-    let order = order_of(alloc, first)?;
-    let domain = domain_of(alloc, second)?;
-    let task = task_of(alloc, third)?;
-    let native = native_of(alloc, fourth)?;
-    match (order, domain, task, native) {
-        (Some(big), Some(domain), Some(task), Some(native)) => {
-            joined(alloc, big, domain, task, native)
-        }
-        _ => Ok(None),
-    }
-}
-
-/// Reads a configuration of the first form. None where the text isn't one.
-pub fn read_config(alloc: Global, text: &[u8]) -> Result<Option<FirstConfig>, NoMemory>
-    ensures { IfOk result (λ found. found ≡ config_of text.now) }
-{
-    let mut cursor = Cursor::new(text);
-    let (Some(first), Some(second), Some(third), Some(fourth), None) = (
-        cursor.line(),
-        cursor.line(),
-        cursor.line(),
-        cursor.line(),
-        cursor.line(),
-    ) else {
+    let [domain] = config.domains.as_slice() else {
         return Ok(None);
     };
-    config_of_four(alloc, first, second, third, fourth)
+    let [task] = config.tasks.as_slice() else {
+        return Ok(None);
+    };
+    let [native] = config.natives.as_slice() else {
+        return Ok(None);
+    };
+    if has_no_more(config) && activates_first(native.service) && are_bounded(domain, task) {
+        let made = config_with(alloc, config.keso.big, domain, task, native)?;
+        Ok(Some(made))
+    } else {
+        Ok(None)
+    }
 }

@@ -5,8 +5,6 @@ mod build;
 mod built;
 mod compile;
 mod config;
-mod config_lines;
-mod config_words;
 mod emit;
 mod first_class;
 mod report;

@@ -229,24 +229,65 @@ fn a_standard_error_that_fails_changes_no_status(rt: HostRuntime) -> Result<(), 
     Ok(())
 }
 
+/// What standard error takes where this configuration is built with the example's class.
+fn said_of(alloc: Global, config: &str) -> Result<Ran, AllocError> {
+    build_of(alloc, config, &CLASS, NONE_FAILS)
+}
+
 #[test]
 fn input_of_another_form_comes_later(rt: HostRuntime) -> Result<(), Fail> {
-    let alloc = rt.alloc();
     let configs = [
-        "",
         "keso 1 order little\n",
-        "keso 1 order middle\ndomain app heap 64\ntask main domain app prio 1 acts 1 auto yes sched full entry Main.run\nnative Main.again()I ActivateTask main\n",
-        "keso 1 order big\ndomain app heap 63\ntask main domain app prio 1 acts 1 auto yes sched full entry Main.run\nnative Main.again()I ActivateTask main\n",
-        "keso 1 order big\ndomain app heap 64\ntask main domain app prio 64 acts 1 auto yes sched full entry Main.run\nnative Main.again()I ActivateTask main\n",
         "keso 1 order big\ndomain app heap 64\ntask main domain app prio 1 acts 1 auto yes sched full entry Main.stop\nnative Main.again()I ActivateTask main\n",
-        "keso 1 order big\ndomain app heap 64\ntask main domain app prio 1 acts 1 auto yes sched full entry Main.run\nnative Main.again()I ActivateTask other\n",
+        "keso 1 order big\ndomain app heap 64\ntask main domain app prio 1 acts 1 auto yes sched full entry Main.run\nnative Main.again()I Schedule\n",
+        "keso 1 order big\ndomain app heap 64\nresource r\ntask main domain app prio 1 acts 1 auto yes sched full entry Main.run\nnative Main.again()I ActivateTask main\n",
+        "keso 1 order big\ndevices base 0 size 0\ndomain app heap 64\ntask main domain app prio 1 acts 1 auto yes sched full entry Main.run\nnative Main.again()I ActivateTask main\n",
     ];
     for config in configs {
-        let ran = build_of(alloc, config, &CLASS, NONE_FAILS)?;
+        let ran = said_of(rt.alloc(), config)?;
         assert_eq!(rt; ran.status, Status::Refused);
         assert_eq!(rt; ran.err.bytes(), b"keso: main.cfg: Later at 0\n".as_slice());
         assert_eq!(rt; ran.files.get("row.c"), None);
     }
+    Ok(())
+}
+
+#[test]
+fn a_fault_of_the_configuration_comes_first(rt: HostRuntime) -> Result<(), Fail> {
+    let cases = [
+        ("", "keso: main.cfg: Syntax at 1\n"),
+        ("keso 1 order middle\n", "keso: main.cfg: Syntax at 1\n"),
+        (
+            "keso 1 order big\ndomain app heap 63\n",
+            "keso: main.cfg: Range at 2\n",
+        ),
+        (
+            "keso 1 order big\n\nevent e\nevent e\n",
+            "keso: main.cfg: Twice at 4\n",
+        ),
+        (
+            "keso 1 order big\nuse t r\n",
+            "keso: main.cfg: Unknown at 2\n",
+        ),
+    ];
+    for (config, line) in cases {
+        for class in [CLASS.as_slice(), &CLASS[..9]] {
+            let ran = build_of(rt.alloc(), config, class, NONE_FAILS)?;
+            assert_eq!(rt; ran.status, Status::Refused);
+            assert_eq!(rt; ran.err.bytes(), line.as_bytes());
+            assert_eq!(rt; ran.files.get("row.c"), None);
+        }
+    }
+    Ok(())
+}
+
+#[test]
+fn comments_and_returns_are_passed_over(rt: HostRuntime) -> Result<(), Fail> {
+    let config =
+        "# a row\r\n  keso  1 order little\r\n\ndomain app heap 0x40\ntask main domain app prio 1 acts 1 auto yes sched full entry Main.run\nnative Main.again()I ActivateTask main";
+    let ran = said_of(rt.alloc(), config)?;
+    assert_eq!(rt; ran.status, Status::Ok);
+    assert!(rt; has_c(&ran) && has(&ran, "row.oil", OIL_TEXT) && has(&ran, "row.map", MAP_TEXT));
     Ok(())
 }
 
@@ -272,7 +313,7 @@ fn a_fault_of_the_class_file_comes_before_later(rt: HostRuntime) -> Result<(), F
         (112, 0, "keso: Main.class: CodeCount at 105\n"),
     ];
     for (at, byte, line) in cases {
-        for config in ["", CONFIG] {
+        for config in ["keso 1 order big\n", CONFIG] {
             let ran = build_of(alloc, config, &with_byte(at, byte), NONE_FAILS)?;
             assert_eq!(rt; ran.status, Status::Refused);
             assert_eq!(rt; ran.err.bytes(), line.as_bytes());

@@ -1,5 +1,5 @@
 -- What a class of the first form says: its code rises, ends, keeps to its stack, and is small.
-use Rattle.std.proofs.Common.{◌∙◌, ◌≡◌, ◌≤◌, ℕ, zero, suc, Bool, true, false, List, [], ◌∷◌, length, Option, Some, None, Result, Ok, Err, refl, sym, ap, subst, arith}
+use Rattle.std.proofs.Common.{◌∙◌, ◌≡◌, ◌≤◌, ℕ, zero, suc, Bool, true, false, List, [], ◌∷◌, length, Some, None, Result, Ok, Err, refl, sym, ap, subst, arith}
 use Rattle.std.specs.Prelude.{not, ◌<◌, ◌^◌, ◌-◌, nat_le, replicate, unwrap_or, ◌&&◌, ◌==◌, ◌+◌, position, if◌then◌else◌}
 use Rattle.std.specs.Result.{result_ok}
 use Rattle.std.proofs.Math.ListN.{get_or}
@@ -25,11 +25,7 @@ use Rattle.keso_cli.specs.FirstForm.Methods.{native_and_entry}
 use Rattle.keso_cli.specs.FirstForm.Operands.{runs}
 use Rattle.keso_cli.proofs.Headline.Code.{ends, front, Rises, has_true}
 use Rattle.keso_cli.proofs.Headline.Input.{nothing_held}
-use Rattle.keso_cli.proofs.Headline.Inversion.{none_is_some, both_true, if_some}
-
-pub bind_some : {A B : Type 0} (f : A → Option B) (o : Option A) (y : B) → (o >>= f) ≡ Some y → (x : A) × (o ≡ Some x) × (f x ≡ Some y)
-bind_some f None y e = absurd (none_is_some y e)
-bind_some f (Some x) y e = (x, refl, e)
+use Rattle.keso_cli.proofs.Headline.Inversion.{none_is_some, both_true, if_some, bind_some}
 
 ok_some : {A E : Type 0} (r : Result A E) (x : A) → result_ok r ≡ Some x → r ≡ Ok x
 ok_some (Ok y) x e = ap (λ o. Ok (unwrap_or o y)) e

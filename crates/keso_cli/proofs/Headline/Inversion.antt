@@ -1,10 +1,9 @@
 -- What stands where a piece of a definition has answered.
-use Rattle.std.proofs.Common.{◌≡◌, ◌≤◌, ℕ, Bool, true, false, Option, Some, None, refl, ap, arith, sym}
-use Rattle.std.specs.Prelude.{List, is_some, unwrap_or, bytes_eq, nat_le, ◌&&◌, if◌then◌else◌}
+use Rattle.std.proofs.Common.{◌≡◌, ℕ, Bool, true, false, Option, Some, None, refl, ap, arith, sym}
+use Rattle.std.specs.Prelude.{List, is_some, bytes_eq, ◌&&◌, if◌then◌else◌}
 use Rattle.std.specs.Option.{option_and_then}
 use Rattle.std.proofs.lemmas.Slice.Eq.{bytes_eq-Decides}
-use Rattle.std.proofs.lemmas.Bool.Decides.{nat_tests}
-use Rattle.keso_cli.specs.FirstForm.Words.{within}
+use Rattle.classfile.specs.Pool.{◌>>=◌}
 
 pub none_is_some : {A : Type 0} (y : A) → None ≡ Some y → ⊥
 none_is_some y e = grind (arith, ap is_some e)
@@ -27,9 +26,6 @@ pub if_some : {A : Type 0} (b : Bool) (o : Option A) (y : A) → (if b then o el
 if_some true o y e = (refl, e)
 if_some false o y e = absurd (none_is_some y e)
 
-pub within_some : (low high : ℕ) (o : Option ℕ) (n : ℕ) → within low high o ≡ Some n → (low ≤ n) × (n ≤ high)
-within_some low high None n e = absurd (none_is_some n e)
-within_some low high (Some m) n e =
-    let i = if_some (nat_le low m && nat_le m high) (Some m) n e in
-    let same : m ≡ n = ap (λ o. unwrap_or o n) i.1 in
-    (grind (arith, nat_tests, i.0, same), grind (arith, nat_tests, i.0, same))
+pub bind_some : {A B : Type 0} (f : A → Option B) (o : Option A) (y : B) → (o >>= f) ≡ Some y → (x : A) × (o ≡ Some x) × (f x ≡ Some y)
+bind_some f None y e = absurd (none_is_some y e)
+bind_some f (Some x) y e = (x, refl, e)

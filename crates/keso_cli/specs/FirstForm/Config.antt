@@ -1,37 +1,56 @@
--- The configuration of the first form: its four lines in this order, with single spaces between the words.
-use Rattle.std.specs.Prelude.{ℕ, Bool, ◌&&◌, List, [], ◌∷◌, Option, Some, None}
-use Rattle.std.specs.Str.{bytes_eq}
-use Rattle.kes_text.specs.Lines.{lines}
+-- Configurations of the first form: one domain, one task, one native method bound to ActivateTask of that task, and nothing
+-- else.
+use Rattle.std.specs.Prelude.{Bool, false, ◌&&◌, List, [], ◌∷◌, Option, Some, None, nat_le, ◌==◌, if◌then◌else◌}
+use Rattle.classfile.specs.Pool.{◌>>=◌}
+use Rattle.kconfig.specs.declared.config.Config.{Config}
+use Rattle.kconfig.specs.declared.config.DomainLine.{DomainLine}
+use Rattle.kconfig.specs.declared.config.NativeLine.{NativeLine}
+use Rattle.kconfig.specs.declared.config.Service.{Service}
+use Rattle.kconfig.specs.declared.config.Service.TheVariants.{ActivateTask}
+use Rattle.kconfig.specs.declared.config.TaskLine.{TaskLine}
 use Rattle.keso_cli.specs.declared.config.FirstConfig.{FirstConfig}
-use Rattle.keso_cli.specs.FirstForm.Lines.{Domain, Task, Native, order_of, domain_of, task_of, native_of}
-use Rattle.keso_cli.specs.FirstForm.Words.{when}
+use Rattle.keso_cli.specs.FirstForm.Class.{is_empty}
 
--- The task is of the domain, and the native activates the task.
-abbrev pub joined : Bool → Domain → Task → Native → Option FirstConfig
-joined big domain task native =
-    when (bytes_eq task.domain domain.name && bytes_eq native.task task.name)
-    (Some (record {
-      big = big;
-      domain = domain.name;
-      heap = domain.heap;
-      task = task.name;
-      priority = task.priority;
-      activations = task.activations;
-      auto = task.auto;
-      full = task.full;
-      entry = task.entry;
-      method = native.method;
-    }))
+-- the one element of a list
+abbrev pub only : {X : Type 0} → List X → Option X
+only (x ∷ []) = Some x
+only _ = None
 
-abbrev pub config_with : Option Bool → Option Domain → Option Task → Option Native → Option FirstConfig
-config_with (Some big) (Some domain) (Some task) (Some native) = joined big domain task native
-config_with _ _ _ _ = None
+-- no devices, and no line of another kind
+abbrev pub has_no_more : Config → Bool
+has_no_more c =
+    c.devices.line == 0 && is_empty c.counters && is_empty c.events && is_empty c.resources && is_empty c.uses
+    && is_empty c.waits && is_empty c.alarms && is_empty c.starts && is_empty c.cells && is_empty c.objects
+    && is_empty c.device_methods && is_empty c.portals
 
-abbrev pub config_of_lines : List (List ℕ) → Option FirstConfig
-config_of_lines (first ∷ second ∷ third ∷ fourth ∷ []) =
-    config_with (order_of first) (domain_of second) (task_of third) (native_of fourth)
-config_of_lines _ = None
+-- ActivateTask of the first task
+abbrev pub activates_first : Service → Bool
+activates_first (ActivateTask task) = task == 0
+activates_first _ = false
 
--- what a text of the first form says
-abbrev pub config_of : List ℕ → Option FirstConfig
-config_of text = config_of_lines (lines text)
+-- the bounds that a domain's and a task's numbers have
+abbrev pub are_bounded : DomainLine → TaskLine → Bool
+are_bounded domain task = nat_le domain.heap 8388608 && nat_le task.prio 63 && nat_le 1 task.acts && nat_le task.acts 15
+
+abbrev pub config_with : Bool → DomainLine → TaskLine → NativeLine → FirstConfig
+config_with big domain task native = record {
+  big = big;
+  heap = domain.heap;
+  task = task.name;
+  priority = task.prio;
+  activations = task.acts;
+  auto = task.auto;
+  full = task.full;
+  entry = task.entry;
+  method = native.method;
+}
+
+-- the configuration of the first form that a configuration is
+unfoldable pub config_of : Config → Option FirstConfig
+config_of c = do
+  domain ← only c.domains
+  task ← only c.tasks
+  native ← only c.natives
+  if has_no_more c && activates_first native.service && are_bounded domain task
+      then Some (config_with c.keso.big domain task native)
+      else None
