@@ -3,3 +3,4 @@ pub mod Plan
 pub mod Call
 pub mod Acting
 pub mod Value
+pub mod Reached

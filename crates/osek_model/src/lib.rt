@@ -2,6 +2,8 @@
 #![tactic(auto)]
 
 mod kernel;
+mod law;
 mod plan;
 
 pub use kernel::{Answer, Kernel};
+pub use law::kernel_stays_dispatched;
