@@ -1,9 +1,8 @@
 -- What loops over lists of things to print keep.
-use Rattle.std.proofs.Common.{◌≡◌, ℕ, zero, suc, ◌+◌, ◌-◌, ◌<◌, ◌≤◌, List, [], ◌∷◌, ◌++◌, length, take, get_or, flat_map, codes, append_assoc, add-one, ap, refl, arith}
-use Rattle.std.proofs.lemmas.Grind.{common_steps, flat_map-append}
+use Rattle.std.proofs.Common.{◌≡◌, ℕ, zero, suc, ◌+◌, ◌-◌, ◌<◌, ◌≤◌, List, [], ◌∷◌, ◌++◌, flat_map, codes, append_assoc, add-one, ap, refl, arith}
+use Rattle.std.proofs.lemmas.Grind.{flat_map-append}
 use Rattle.std.proofs.lemmas.List.{append-nil}
-use Rattle.std.proofs.lemmas.List.FromFn.{length-enumerate_from, get_or-enumerate_from}
-use Rattle.std.specs.List.{enumerate_from, join_by, range_with_len}
+use Rattle.std.specs.List.{join_by, range_with_len}
 use Rattle.csubset.specs.Text.Names.{word_name}
 use Rattle.csubset.specs.Text.Program.{parameters_text}
 
@@ -24,17 +23,6 @@ range_step f a j old before after from so_far next =
     let count : j + 1 - a ≡ (j - a) + 1 = omega arith in
     let at : a + (j - a) ≡ j = omega arith in
     rw (next, so_far, count, range_with_len_more a (j - a) j at, flat_map-append f (range_with_len a (j - a)) (j ∷ []), append-nil (f j)) (simp append_assoc)
-
--- a loop over elements and their indices, at its next element
-pub enumerated_step : {X : Type 0} (f : ℕ × X → List ℕ) (xs : List X) (i : ℕ) (x : X) (old before after : List ℕ) → i < length xs → x ≡ get_or xs i x → before ≡ old ++ flat_map f (take i (enumerate_from 0 xs)) → after ≡ before ++ f (i, x) → after ≡ old ++ flat_map f (take (i + 1) (enumerate_from 0 xs))
-enumerated_step f xs i x old before after within is so_far next =
-    let long = length-enumerate_from 0 xs in
-    let here = get_or-enumerate_from 0 xs i (i, x) within in
-    grind (arith, common_steps, long, here)
-
--- and behind the last
-pub enumerated_end : {X : Type 0} (f : ℕ × X → List ℕ) (xs : List X) (i : ℕ) (old now : List ℕ) → length xs ≤ i → now ≡ old ++ flat_map f (take i (enumerate_from 0 xs)) → now ≡ old ++ flat_map f (enumerate_from 0 xs)
-enumerated_end f xs i old now past so_far = grind (arith, common_steps, length-enumerate_from 0 xs)
 
 -- the parameters, of which there is one at least
 pub parameters-appended : (n : ℕ) (old one new : List ℕ) → 0 < n → one ≡ old ++ (codes "W " ++ word_name 0) → new ≡ one ++ flat_map (λ k. codes ", " ++ (codes "W " ++ word_name k)) (range_with_len 1 (n - 1)) → new ≡ old ++ parameters_text n

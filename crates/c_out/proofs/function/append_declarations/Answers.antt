@@ -1,9 +1,8 @@
+use Rattle.std.proofs.Common.{arith}
 use Rattle.csubset.specs.Text.Program.{function_declaration}
-use Rattle.c_out.proofs.Lists.{enumerated_step, enumerated_end}
+use Rattle.kes_text.proofs.NumberedLemmas.{numbered_step}
 use Rattle.c_out.proofs.function.append_declarations.Goals as goal
 
 pub loop-number-preserved : goal.loop-number-preserved
-loop-number-preserved c = enumerated_step (λ x. function_declaration x.0 x.1) c.args.functions.now c.loop-number.number c.index-functions-number.result c.args.out.now.items c.loop-number.out.items c.append_declaration.new.out.items c.loop-number-test.true c.index-functions-number.is c.loop-number.invariant c.in_ok-append_declaration.ensures
-
-pub returns : goal.returns
-returns c = enumerated_end (λ x. function_declaration x.0 x.1) c.args.functions.now c.loop-number.number c.args.out.now.items c.loop-number.out.items c.loop-number-test.false c.loop-number.invariant
+loop-number-preserved c =
+    numbered_step function_declaration 0 _ _ _ _ _ _ _ _ c.loop-number-test.true c.index-functions-number.is (omega arith) c.loop-number.invariant c.in_ok-append_declaration.ensures

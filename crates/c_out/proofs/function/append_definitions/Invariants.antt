@@ -1,7 +1,7 @@
-use Rattle.std.proofs.Common.{◌≡◌, ◌++◌, take, flat_map}
-use Rattle.std.specs.List.{enumerate_from}
+use Rattle.std.proofs.Common.{◌≡◌, ◌++◌, take}
 use Rattle.csubset.specs.Text.Program.{function_text}
+use Rattle.kes_text.specs.Numbered.{numbered}
 use Rattle.c_out.proofs.function.append_definitions.Given as goal
 
 abbrev pub invariant-loop-number : goal.invariant-loop-number
-invariant-loop-number l = l.out.items ≡ l.initial.out.items ++ flat_map (λ f. function_text f.0 f.1) (take l.number (enumerate_from 0 l.functions))
+invariant-loop-number l = l.out.items ≡ l.initial.out.items ++ numbered function_text 0 (take l.number l.functions)
