@@ -1,3 +1,4 @@
+pub mod Answers
 pub mod Complaints
 pub mod KindName
 pub mod Lines
