@@ -166,7 +166,8 @@ impl Descriptor {
     ///
     /// A class name ends at its `;` and has the form of 4.2.1, an array has at most 255 dimensions, and
     /// the parameters of a method take at most 255 slots, where `long` and `double` take two. `Bad`
-    /// comes exactly where the bytes are neither a field nor a method descriptor.
+    /// comes exactly where the bytes are neither a field nor a method descriptor. What is read is what
+    /// the bytes spell: see `descriptors_read_what_is_spelled`.
     pub fn read(alloc: Global, bytes: &[u8]) -> Result<Descriptor, DescFault>
         ensures value { IfOk result (λ found. signature_of bytes.now ≡ Some found) }
         ensures bad { IfErr result (λ fault. fault ≡ Bad → signature_of bytes.now ≡ None) }

@@ -4,6 +4,7 @@
 mod bytes;
 mod descriptor;
 mod keys;
+mod law;
 mod name;
 mod param;
 mod shape;
@@ -14,6 +15,7 @@ mod types;
 
 pub use descriptor::{DescFault, Descriptor};
 pub use keys::{FieldKey, MethodKey};
+pub use law::descriptors_read_what_is_spelled;
 pub use name::Name;
 pub use param::Param;
 pub use shape::{Shape, width};

@@ -1,4 +1,4 @@
-ghost use Rattle.jnames.specs.Examples.{MethodIsRead, FieldIsRead, FaultsAreFound};
+ghost use Rattle.jnames.specs.Examples.{MethodIsRead, FieldIsRead, FaultsAreFound, MethodIsSpelled, FieldIsSpelled, NothingIsSpelled};
 
 use super::*;
 use std::alloc::{AllocError, Global};
@@ -8,6 +8,9 @@ fn worked_examples()
     ensures method { MethodIsRead }
     ensures field { FieldIsRead }
     ensures faults { FaultsAreFound }
+    ensures spelled_method { MethodIsSpelled }
+    ensures spelled_field { FieldIsSpelled }
+    ensures spelled_nothing { NothingIsSpelled }
 {}
 
 #[test]
