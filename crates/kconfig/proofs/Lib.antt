@@ -1,5 +1,9 @@
 pub mod Among
 pub mod Keeping
+pub mod Inversion
 pub mod Masks
+pub mod Rows
+pub mod Saying
+pub mod Soundness
 pub mod Stepping
 pub mod TextLineLemmas

@@ -16,7 +16,7 @@ or_else : {A : Type 0} → A → Result A Stop → A
 or_else d (Ok x) = x
 or_else d (Err e) = d
 
-ok_is : {A : Type 0} (x y : A) → ◌≡◌ {A = Result A Stop} (Ok x) (Ok y) → x ≡ y
+pub ok_is : {A : Type 0} (x y : A) → ◌≡◌ {A = Result A Stop} (Ok x) (Ok y) → x ≡ y
 unfolding or_else
 ok_is {A} x y h = let f : Result A Stop → A = or_else x in ap f h
 
@@ -32,12 +32,12 @@ is_ok_test : {A : Type 0} → Result A Stop → Bool
 is_ok_test (Ok x) = true
 is_ok_test (Err e) = false
 
-not_both : {A : Type 0} (x : A) (e : Stop) → ◌≡◌ {A = Result A Stop} (Ok x) (Err e) → ⊥
+pub not_both : {A : Type 0} (x : A) (e : Stop) → ◌≡◌ {A = Result A Stop} (Ok x) (Err e) → ⊥
 unfolding is_ok_test
 not_both {A} x e h = let f : Result A Stop → Bool = is_ok_test in true≢false (ap f h)
 
 -- the next line and those behind it
-next : (waits : List (List ℕ × List ℕ)) (c : Config) (line : ℕ × List ℕ) (lines : List (ℕ × List ℕ))
+pub next : (waits : List (List ℕ × List ℕ)) (c : Config) (line : ℕ × List ℕ) (lines : List (ℕ × List ℕ))
     → config_with waits c (line ∷ lines) ≡ (line_of (record { config = c; waits = waits }) line.0 (words line.1) >>= (λ x. config_with waits (with_line c x) lines))
 unfolding config_with
 next waits c line lines = refl

@@ -11,3 +11,4 @@ pub mod Alarms
 pub mod Methods
 pub mod Kept
 pub mod Reading
+pub mod Sound

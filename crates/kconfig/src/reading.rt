@@ -3,6 +3,7 @@
 ghost use Rattle.std.specs.Prelude.{◌≡◌, ◌++◌, map, IfOk, OnOk, slice_index_or, []};
 ghost use Rattle.kconfig.specs.Said.{OrNoMemory};
 ghost use Rattle.kconfig.specs.Limits.{IsSmall, Fits, IsKey};
+ghost use Rattle.kconfig.specs.Sound.{IsSound};
 ghost use Rattle.kconfig.specs.TextLines.{words};
 ghost use Rattle.kconfig.specs.Reading.{line_by, line_of, behind_line, wait_words, waits_of, config_from, config_of};
 
@@ -159,6 +160,7 @@ fn config_with<'a>(
 pub fn read_config(alloc: Global, text: &[u8]) -> Result<Config, Stop>
     ensures says { OrNoMemory result (config_of text.now) }
     ensures small { IfOk result IsSmall }
+    ensures sound { IfOk result IsSound }
 {
     let found = text_lines(alloc, text)?;
     match found.lines.as_slice() {
