@@ -1,9 +1,11 @@
 pub mod Among
-pub mod Keeping
+pub mod Filling
 pub mod Inversion
+pub mod Keeping
 pub mod Masks
 pub mod Rows
 pub mod Saying
 pub mod Soundness
 pub mod Stepping
 pub mod TextLineLemmas
+pub mod WellConfigured

@@ -12,3 +12,6 @@ pub mod Methods
 pub mod Kept
 pub mod Reading
 pub mod Sound
+pub mod Tables
+pub mod Masks
+pub mod Worked

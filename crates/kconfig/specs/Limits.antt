@@ -5,6 +5,7 @@ use Rattle.kconfig.specs.declared.config.Line.{Line}
 use Rattle.kconfig.specs.declared.config.Line.TheVariants as line
 use Rattle.kconfig.specs.declared.config.TaskLine.{TaskLine}
 use Rattle.kconfig.specs.declared.config.CounterLine.{CounterLine}
+use Rattle.kconfig.specs.declared.config.StartLine.{StartLine}
 
 pub record IsTaskSmall (task : TaskLine) : Type 0 where
   pub prio : task.prio ≤ 63
@@ -14,6 +15,11 @@ pub record IsCounterSmall (counter : CounterLine) : Type 0 where
   pub max : counter.max ≤ 2147483647
   pub base : counter.base ≤ 65535
   pub min : counter.min ≤ counter.max
+
+-- the times of an alarm, in ticks
+pub record IsStartSmall (start : StartLine) : Type 0 where
+  pub first : start.first ≤ 2147483647
+  pub cycle : start.cycle ≤ 2147483647
 
 pub record IsSmall (c : Config) : Type 0 where
   pub domains : length c.domains ≤ 16

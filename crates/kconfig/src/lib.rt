@@ -1,25 +1,33 @@
-//! The configuration of an application, read line by line from its text.
+//! The configuration of an application, read line by line from its text, and the kernel's tables of it.
 #![tactic(auto)]
 
 mod alarms;
 mod config;
 mod devices;
+mod kernel_tables;
 mod methods;
 mod number;
 mod reader;
 mod reading;
 mod said;
 mod service_words;
+#[cfg(test)]
+mod table_tests;
+mod task_masks;
+mod task_rows;
 mod tasks;
 #[cfg(test)]
 mod tests;
 mod text_lines;
 mod word_set;
 mod words;
+mod worked;
 
 pub use config::{
     AlarmLine, CellLine, Config, CounterLine, DeviceLine, DevicesLine, DomainLine, KesoLine,
     NameLine, NativeLine, ObjectLine, PortalLine, Service, StartLine, TaskLine, UseLine, WaitLine,
 };
+pub use kernel_tables::tables;
 pub use osek_core::Action;
 pub use reading::read_config;
+pub use worked::tables_of_two_tasks;
