@@ -1,5 +1,6 @@
 -- What stands where a piece of a definition has answered.
-use Rattle.std.proofs.Common.{◌≡◌, ℕ, List, Bool, true, false, cond, Option, Some, None, Result, Ok, Err, refl}
+use Rattle.std.proofs.Common.{◌≡◌, ℕ, List, Bool, true, false, cond, Option, Some, None, Result, Ok, Err, refl, sym, true≢false}
+use Rattle.std.specs.Prelude.{◌&&◌}
 use Rattle.std.proofs.lemmas.Option.{none-some}
 use Rattle.kes_text.specs.declared.refusal.Stop.{Stop}
 use Rattle.oil_in.specs.Pieces as pieces
@@ -38,3 +39,7 @@ fixed_ok None s behind h = absurd (err-ok _ behind h)
 pub ranged_ok : (o : Option ℕ) (s behind : Scan) (y : ℕ × Scan) → ranged o s behind ≡ Ok y → (n : ℕ) × (o ≡ Some n) × ((n, behind) ≡ y)
 ranged_ok (Some n) s behind y h = (n, refl, same_Ok (n, behind) y h)
 ranged_ok None s behind y h = absurd (err-ok _ y h)
+
+pub both_true : (a b : Bool) → a && b ≡ true → (a ≡ true) × (b ≡ true)
+both_true true b e = (refl, e)
+both_true false b e = absurd (true≢false (sym e))

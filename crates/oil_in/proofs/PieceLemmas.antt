@@ -1,5 +1,5 @@
 -- Fixed text, names and numbers at the front of bytes.
-use Rattle.std.proofs.Common.{◌≡◌, ◌≢◌, ℕ, List, [], ◌∷◌, ◌++◌, Option, Some, None, Bool, true, false, cond, Bor, MatchOption, refl, sym, ap, ◌∙◌, eq-eqb}
+use Rattle.std.proofs.Common.{◌≡◌, ◌≢◌, ℕ, List, [], ◌∷◌, ◌++◌, Option, Some, None, Bool, true, false, cond, Bor, MatchOption, flat_map, refl, sym, ap, ◌∙◌, append_assoc, eq-eqb}
 use Rattle.std.proofs.lemmas.Bool.{eqb-true}
 use Rattle.std.proofs.lemmas.Option.{none-some, same_Some}
 use Rattle.std.proofs.lemmas.List.Sums.{prefix_len-le-length}
@@ -34,3 +34,9 @@ pub finds-behind : (text bytes : List ℕ) (r : Option (Bor (List ℕ))) → Mat
     → Finds (λ rest. rest.now) r (behind text bytes)
 finds-behind text bytes (Some x) h = ap (behind text) h ∙ behind-front text x.now
 finds-behind text bytes None h = not_some (behind text bytes) (λ rest e. h rest (behind-is text bytes rest e))
+
+-- other lines than those of one front
+pub none-front : {X : Type 0} (front : List ℕ) (text : X → List ℕ) (xs : List X) (rest : List ℕ) → ((x : X) (more : List ℕ) → behind front (text x ++ more) ≡ None) → behind front rest ≡ None
+    → behind front (flat_map text xs ++ rest) ≡ None
+none-front front text [] rest each end = end
+none-front front text (x ∷ xs) rest each end = ap (behind front) (append_assoc (text x) (flat_map text xs) rest) ∙ each x (flat_map text xs ++ rest)

@@ -26,7 +26,7 @@ use Rattle.oil_in.proofs.TextOfForms.{name_in-is, number_in-is, object-whole, re
 use Rattle.oil_in.proofs.TextOfObjects.{Spells, end-is, fresh_is}
 use Rattle.oil_in.proofs.TextOfRows.{position-named}
 
-known_ok : {X : Type 0} (o : Option X) (s behind : Scan) (y : X × Scan) → known o s behind ≡ Ok y → (o ≡ Some y.0) × (behind ≡ y.1)
+pub known_ok : {X : Type 0} (o : Option X) (s behind : Scan) (y : X × Scan) → known o s behind ≡ Ok y → (o ≡ Some y.0) × (behind ≡ y.1)
 known_ok {X} (Some x) s behind y h =
     let e : (x, behind) ≡ y = same_Ok (x, behind) y h in
     (ap (λ (z : X × Scan). Some z.0) e, ap (λ (z : X × Scan). z.1) e)
@@ -45,7 +45,7 @@ counter_is tables s y h =
     ∙ ap (λ (w : List ℕ). attribute (codes "COUNTER") (codes "c_" ++ w) ++ l.0.1) word
     ∙ ap (λ (w : List ℕ). attribute (codes "COUNTER") (codes "c_" ++ counter_name tables y.0) ++ w) rest
 
-activation_some : (o : Option ℕ) (act : Action) → activation_of o ≡ Some act → (k : ℕ) × (o ≡ Some k) × (Activate k ≡ act)
+pub activation_some : (o : Option ℕ) (act : Action) → activation_of o ≡ Some act → (k : ℕ) × (o ≡ Some k) × (Activate k ≡ act)
 activation_some (Some k) act h = (k, refl, same_Some (Activate k) act h)
 activation_some None act h = absurd (none-some act h)
 
@@ -135,7 +135,7 @@ started_line_is bytes first cycle rest h =
 abbrev pub StartStands : Scan → Option Start × Scan → Type 0
 StartStands s y = s.text ≡ attribute (codes "AUTOSTART") (start_text y.0) ++ y.1.text
 
-started_ok : (o : Option Start) (s behind : Scan) (y : Option Start × Scan) → started o s behind ≡ Ok y → (start : Start) × (o ≡ Some start) × ((Some start, behind) ≡ y)
+pub started_ok : (o : Option Start) (s behind : Scan) (y : Option Start × Scan) → started o s behind ≡ Ok y → (start : Start) × (o ≡ Some start) × ((Some start, behind) ≡ y)
 started_ok (Some start) s behind y h = (start, refl, same_Ok (Some start, behind) y h)
 started_ok None s behind y h = absurd (err-ok _ y h)
 

@@ -1,22 +1,21 @@
 -- A text that is read is the text of the tables that it is read as.
-use Rattle.std.proofs.Common.{◌≡◌, ℕ, ◌++◌, ◌∷◌, [], List, codes, flat_map, Ok, refl, sym, ap, subst, ◌∙◌}
+use Rattle.std.proofs.Common.{◌≡◌, ℕ, ◌++◌, ◌∷◌, [], List, codes, flat_map, Ok, refl, ap, subst, ◌∙◌}
 use Rattle.kes_text.specs.Numbered.{numbered}
 use Rattle.osek_core.specs.declared.tables.Tables.{Tables}
 use Rattle.oil_out.specs.OilText.{opening_text, event_text, resource_text, counter_text, task_text, alarm_text, oil_text}
 use Rattle.oil_in.specs.Pieces.{behind}
 use Rattle.oil_in.specs.Forms.{header}
-use Rattle.oil_in.specs.Scan.{Scan, fixed, many}
+use Rattle.oil_in.specs.Scan.{Scan, fixed}
 use Rattle.oil_in.specs.Objects.{event_at, events_at, resource_at, resources_at, counter_at, counters_at}
 use Rattle.oil_in.specs.Tasks.{task_at, tasks_at}
 use Rattle.oil_in.specs.Alarms.{alarm_at, alarms_at}
 use Rattle.oil_in.specs.Reading.{fixed_lines, opening_lines, ended, closed_at, objects_at, oil_read}
 use Rattle.oil_in.proofs.Inversion.{err-ok, same_Ok, bind_ok}
 use Rattle.oil_in.proofs.TextOfForms.{then}
-use Rattle.oil_in.proofs.TextOfObjects.{Spells, fixed-is, event-is, many-is}
-use Rattle.oil_in.proofs.TextOfRows.{plain, resource-is, counter-is}
+use Rattle.oil_in.proofs.TextOfObjects.{fixed-is, event-is, all-is}
+use Rattle.oil_in.proofs.TextOfRows.{all_plain, resource-is, counter-is}
 use Rattle.oil_in.proofs.TextOfTasks.{task-is}
 use Rattle.oil_in.proofs.TextOfAlarms.{alarm-is}
-use Rattle.oil_in.proofs.ManyLemmas.{Form, ObjectOf}
 
 lines_are : (texts : List (List ℕ)) (s after : Scan) → fixed_lines texts s ≡ Ok after → s.text ≡ flat_map (λ text. text) texts ++ after.text
 unfolding fixed_lines
@@ -35,18 +34,6 @@ closed_is s after h =
     let one = bind_ok (fixed (behind (codes "};\n") s.text) s) _ after h in
     fixed-is (codes "};\n") s one.0 one.1 ∙ ap (λ (w : List ℕ). codes "};\n" ++ w) (ended_is one.0 one.0.text after one.2)
 
--- all objects of one kind
-all_are : {X : Type 0} (form : Form) (object : ObjectOf X) (text : ℕ → X → List ℕ) → Spells form object text → (room : ℕ) (s : Scan) (y : List X × Scan) → many form object room [] s ≡ Ok y
-    → s.text ≡ numbered text 0 y.0 ++ y.1.text
-all_are {X} form object text spells room s y h =
-    let m = many-is form object text spells room [] s y.0 y.1 h in
-    m.2 ∙ ap (λ (new : List X). numbered text 0 new ++ y.1.text) (sym m.1)
-
-all_plain : {X : Type 0} (form : Form) (object : ObjectOf X) (text : X → List ℕ) → Spells form object (λ _ x. text x) → (room : ℕ) (s : Scan) (y : List X × Scan) → many form object room [] s ≡ Ok y
-    → s.text ≡ flat_map text y.0 ++ y.1.text
-all_plain {X} form object text spells room s y h =
-    all_are form object (λ _ x. text x) spells room s y h ∙ ap (λ (w : List ℕ). w ++ y.1.text) (plain text 0 y.0)
-
 objects_are : (before : List ℕ) (text : List ℕ) (s : Scan) (x : Tables × Scan) → text ≡ before ++ s.text → objects_at s ≡ Ok x
     → text ≡ (before ++ numbered event_text 0 x.0.events ++ flat_map resource_text x.0.resources ++ flat_map counter_text x.0.counters ++ flat_map (task_text x.0) x.0.tasks ++ flat_map (alarm_text x.0) x.0.alarms) ++ x.1.text
 unfolding objects_at
@@ -63,7 +50,7 @@ objects_are before text s x front h =
     let tc = flat_map counter_text c.0.0 in
     let td = flat_map (task_text tables) d.0.0 in
     let te = flat_map (alarm_text tables) e.0.0 in
-    let one = then text before s.text ta a.0.1.text front (all_are (header (codes "  EVENT e_")) event_at event_text event-is 31 s a.0 a.1) in
+    let one = then text before s.text ta a.0.1.text front (all-is (header (codes "  EVENT e_")) event_at event_text event-is 31 s a.0 a.1) in
     let two = then text (before ++ ta) a.0.1.text tb b.0.1.text one (all_plain (header (codes "  RESOURCE r_")) resource_at resource_text resource-is 32 a.0.1 b.0 b.1) in
     let three = then text (before ++ ta ++ tb) b.0.1.text tc c.0.1.text two (all_plain (header (codes "  COUNTER c_")) counter_at counter_text counter-is 8 b.0.1 c.0 c.1) in
     let four = then text (before ++ ta ++ tb ++ tc) c.0.1.text td d.0.1.text three (all_plain (header (codes "  TASK t_")) (task_at b.0.0 a.0.0) (task_text tables) (task-is tables) 64 c.0.1 d.0 d.1) in

@@ -80,7 +80,7 @@ unfolding attribute
 attribute-whole name value rest = sym (simp append_assoc)
 
 -- the parts of an object with what is behind
-regroup : (a kind b prefix name c attributes d rest : List ℕ)
+pub regroup : (a kind b prefix name c attributes d rest : List ℕ)
     → (((a ++ kind ++ b ++ (prefix ++ name)) ++ c) ++ attributes ++ d) ++ rest ≡ (a ++ kind ++ b ++ prefix) ++ (name ++ (c ++ (attributes ++ (d ++ rest))))
 regroup a kind b prefix name c attributes d rest = simp append_assoc
 
@@ -90,6 +90,9 @@ unfolding header
 object-whole kind prefix name attributes text body rest e f =
     e ∙ ap (λ (w : List ℕ). (codes "  " ++ kind ++ codes " " ++ prefix) ++ (name ++ (codes " {\n" ++ w))) f
     ∙ sym (regroup (codes "  ") kind (codes " ") prefix name (codes " {\n") attributes (codes "  };\n") rest)
+
+pub three : (a b c rest : List ℕ) → (a ++ b ++ c) ++ rest ≡ a ++ (b ++ (c ++ rest))
+three a b c rest = simp append_assoc
 
 -- one text behind another
 pub then : (text a middle b rest : List ℕ) → text ≡ a ++ middle → middle ≡ b ++ rest → text ≡ (a ++ b) ++ rest

@@ -1,24 +1,23 @@
 -- What stands at the front of the text where lines and objects are read.
-use Rattle.std.proofs.Common.{◌≡◌, ℕ, zero, suc, ◌+◌, ◌++◌, ◌∷◌, [], List, Bool, codes, decimal, length, Some, None, Ok, refl, ap, sym, subst, ◌∙◌, append_assoc, length-append}
+use Rattle.std.proofs.Common.{◌≡◌, ℕ, ◌+◌, ◌++◌, ◌∷◌, [], List, Bool, codes, decimal, length, Some, Ok, refl, ap, sym, subst, ◌∙◌, append_assoc, arith}
 use Rattle.std.specs.Prelude.{nat_le, ◌&&◌, ◌==◌}
 use Rattle.std.specs.List.{list_any}
 use Rattle.std.proofs.lemmas.Bool.{eqb-true}
 use Rattle.std.proofs.lemmas.List.{append-nil}
 use Rattle.std.proofs.lemmas.Option.{none-some, same_Some}
 use Rattle.kes_text.specs.Numbered.{numbered}
-use Rattle.kes_text.specs.declared.refusal.Kind.TheVariants as kind
 use Rattle.osek_core.specs.declared.tables.Name.{Name}
 use Rattle.oil_out.specs.OilText.{attribute, object, mask, event_text}
 use Rattle.oil_in.specs.declared.pieces.Number.{Number}
 use Rattle.oil_in.specs.declared.pieces.Number.TheVariants.{Large, Value}
 use Rattle.oil_in.specs.Pieces.{behind}
 use Rattle.oil_in.specs.Forms.{header, number_line}
-use Rattle.oil_in.specs.Scan.{Scan, ◌>>=◌, refused, next, line, fixed, within, number_between, where_formed, many}
+use Rattle.oil_in.specs.Scan.{Scan, next, line, fixed, within, number_between, many}
 use Rattle.oil_in.specs.Objects.{object_end, fresh, is_named, masked, mask_at, event_at}
 use Rattle.oil_in.proofs.PieceLemmas.{if_some, behind-is}
 use Rattle.oil_in.proofs.Inversion.{err-ok, same_Ok, bind_ok, if_ok, if_not_ok, line_ok, fixed_ok, ranged_ok}
-use Rattle.oil_in.proofs.TextOfForms.{name_in-is, number_in-is, attribute-whole, object-whole}
-use Rattle.oil_in.proofs.ManyLemmas.{Form, ObjectOf}
+use Rattle.oil_in.proofs.TextOfForms.{name_in-is, number_in-is, attribute-whole, object-whole, then}
+use Rattle.oil_in.proofs.ManyLemmas.{Form, ObjectOf, keeps}
 
 pub fixed-is : (text : List ℕ) (s after : Scan) → fixed (behind text s.text) s ≡ Ok after → s.text ≡ text ++ after.text
 fixed-is text s after h =
@@ -101,30 +100,23 @@ event-is events s h name after e o =
     let P : Name × Scan → Type 0 = λ x. s.text ≡ event_text (length events) x.0 ++ x.1.text in
     subst P made whole
 
--- one object after the other, with their numbers from those before on
-pub many-is : {X : Type 0} (form : Form) (object : ObjectOf X) (text : ℕ → X → List ℕ) → Spells form object text → (room : ℕ) (xs : List X) (s : Scan) (ys : List X) (after : Scan)
-    → many form object room xs s ≡ Ok (ys, after) → (new : List X) × (ys ≡ xs ++ new) × (s.text ≡ numbered text (length xs) new ++ after.text)
-unfolding many
-many-is {X} form object text spells zero xs s ys after h =
-    elim (form s.text) as (λ o. where_formed o (λ (h : List ℕ × List ℕ). refused {A = List X × Scan} kind.Room s) (Ok (xs, s)) ≡ Ok (ys, after) → (new : List X) × (ys ≡ xs ++ new) × (s.text ≡ numbered text (length xs) new ++ after.text)) [
-      | Some g ↦ λ e. absurd (err-ok _ (ys, after) e)
-      | None ↦ λ e.
-          let same : (xs, s) ≡ (ys, after) = same_Ok (xs, s) (ys, after) e in
-          ([], sym (value_of xs ys s after same) ∙ sym (append-nil xs), ap (λ (r : Scan). r.text) (scan_of xs ys s after same))
-    ] h
-many-is {X} form object text spells (suc room) xs s ys after h =
-    elim (form s.text) as (λ o. form s.text ≡ o → where_formed o (λ (g : List ℕ × List ℕ). object xs g s >>= λ x. many form object room (xs ++ x.0 ∷ []) x.1) (Ok (xs, s)) ≡ Ok (ys, after) → (new : List X) × (ys ≡ xs ++ new) × (s.text ≡ numbered text (length xs) new ++ after.text)) [
-      | Some g ↦ λ f e.
-          let one = bind_ok (object xs g s) (λ x. many form object room (xs ++ x.0 ∷ []) x.1) (ys, after) e in
-          let more = many-is form object text spells room (xs ++ one.0.0 ∷ []) one.0.1 ys after one.2 in
-          let n : length (xs ++ one.0.0 ∷ []) ≡ length xs + 1 = length-append xs (one.0.0 ∷ []) in (
-            one.0.0 ∷ more.0,
-            more.1 ∙ append_assoc xs (one.0.0 ∷ []) more.0,
-            spells xs s g one.0.0 one.0.1 f one.1
-                ∙ ap (λ (w : List ℕ). text (length xs) one.0.0 ++ w) (more.2 ∙ ap (λ (k : ℕ). numbered text k more.0 ++ after.text) n)
-                ∙ sym (append_assoc (text (length xs) one.0.0) (numbered text (length xs + 1) more.0) after.text),
-          )
-      | None ↦ λ f e.
-          let same : (xs, s) ≡ (ys, after) = same_Ok (xs, s) (ys, after) e in
-          ([], sym (value_of xs ys s after same) ∙ sym (append-nil xs), ap (λ (r : Scan). r.text) (scan_of xs ys s after same))
-    ] refl h
+numbered-push : {X : Type 0} (text : ℕ → X → List ℕ) (n : ℕ) (xs : List X) (x : X) → numbered text n (xs ++ x ∷ []) ≡ numbered text n xs ++ text (n + length xs) x
+numbered-push text n [] x =
+    let k : n ≡ n + 0 = omega arith in
+    append-nil (text n x) ∙ ap (λ i. text i x) k
+numbered-push text n (y ∷ ys) x =
+    let k : n + 1 + length ys ≡ n + length (y ∷ ys) = omega arith in
+    ap (λ w. text n y ++ w) (numbered-push text (n + 1) ys x)
+    ∙ ap (λ i. text n y ++ (numbered text (n + 1) ys ++ text i x)) k
+    ∙ sym (append_assoc (text n y) (numbered text (n + 1) ys) (text (n + length (y ∷ ys)) x))
+
+-- The objects of one kind are read from their texts.
+pub all-is : {X : Type 0} (form : Form) (object : ObjectOf X) (text : ℕ → X → List ℕ) → Spells form object text → (room : ℕ) (s : Scan) (y : List X × Scan) → many form object room [] s ≡ Ok y
+    → s.text ≡ numbered text 0 y.0 ++ y.1.text
+all-is {X} form object text spells room s y h =
+    let step : (left : ℕ) (xs : List X) (r : Scan) (g : List ℕ × List ℕ) (x : X) (after : Scan) → s.text ≡ numbered text 0 xs ++ r.text → form r.text ≡ Some g → object xs g r ≡ Ok (x, after)
+    → s.text ≡ numbered text 0 (xs ++ x ∷ []) ++ after.text = λ left xs r g x after so_far f o.
+    let n : length xs ≡ 0 + length xs = omega arith in
+    let more : numbered text 0 xs ++ text (length xs) x ≡ numbered text 0 (xs ++ x ∷ []) = ap (λ i. numbered text 0 xs ++ text i x) n ∙ sym (numbered-push text 0 xs x) in
+    then s.text (numbered text 0 xs) r.text (text (length xs) x) after.text so_far (spells xs r g x after f o) ∙ ap (λ w. w ++ after.text) more in
+    (keeps form object (λ _ xs r. s.text ≡ numbered text 0 xs ++ r.text) step room [] s y refl h).1

@@ -1,5 +1,5 @@
 -- What stands at the front of the text where resources, counters, tasks and alarms are read.
-use Rattle.std.proofs.Common.{◌≡◌, ℕ, ◌+◌, ◌<◌, ◌++◌, ◌∷◌, [], List, Bool, true, false, cond, codes, decimal, length, get_or, flat_map, Option, Some, None, Ok, refl, ap, sym, subst, ◌∙◌, arith}
+use Rattle.std.proofs.Common.{◌≡◌, ℕ, ◌+◌, ◌<◌, ◌++◌, ◌∷◌, [], List, Bool, true, false, cond, codes, decimal, length, get_or, flat_map, Option, Some, None, Ok, refl, ap, sym, subst, ◌∙◌, arith, ltb-false, ◌≤◌}
 use Rattle.std.specs.Prelude.{nat_lt, position, slice_get}
 use Rattle.std.specs.List.{list_any, position_or_len}
 use Rattle.std.specs.Option.{option_map_or}
@@ -14,18 +14,23 @@ use Rattle.osek_core.specs.declared.tables.CounterRule.{CounterRule}
 use Rattle.oil_out.specs.OilText.{attribute, resource_text, counter_text, name_at, schedule_text, activation_text}
 use Rattle.oil_in.specs.Pieces.{behind}
 use Rattle.oil_in.specs.Forms.{header, reference, picked, choice}
-use Rattle.oil_in.specs.Scan.{Scan, next, line}
+use Rattle.oil_in.specs.Scan.{Scan, next, line, many}
 use Rattle.oil_in.specs.Objects.{object_end, fresh, is_named, property_at, resource_at, max_at, base_at, min_at, counter_rule_at, counter_at}
 use Rattle.oil_in.specs.Tasks.{least, placed, place_at, places_at, used_at, waited_at, priority_at, schedule_at, activations_at, auto_at}
 use Rattle.oil_in.proofs.PieceLemmas.{if_some, behind-is}
 use Rattle.oil_in.proofs.Inversion.{err-ok, same_Ok, bind_ok, if_ok, if_not_ok, line_ok}
 use Rattle.oil_in.proofs.TextOfForms.{name_in-is, object-whole, reference-whole, then}
-use Rattle.oil_in.proofs.TextOfObjects.{Spells, fixed-is, number_between-is, end-is, fresh_is, many-is}
+use Rattle.oil_in.proofs.TextOfObjects.{Spells, fixed-is, number_between-is, end-is, fresh_is, all-is}
+use Rattle.oil_in.proofs.ManyLemmas.{Form, ObjectOf}
 
 -- texts that don't tell their number
 pub plain : {X : Type 0} (text : X → List ℕ) (n : ℕ) (xs : List X) → numbered (λ _ x. text x) n xs ≡ flat_map text xs
 plain text n [] = refl
 plain text n (x ∷ xs) = ap (λ (w : List ℕ). text x ++ w) (plain text (n + 1) xs)
+
+pub all_plain : {X : Type 0} (form : Form) (object : ObjectOf X) (text : X → List ℕ) → Spells form object (λ _ x. text x) → (room : ℕ) (s : Scan) (y : List X × Scan) → many form object room [] s ≡ Ok y
+    → s.text ≡ flat_map text y.0 ++ y.1.text
+all_plain form object text spells room s y h = all-is form object (λ _ x. text x) spells room s y h ∙ ap (λ (w : List ℕ). w ++ y.1.text) (plain text 0 y.0)
 
 property_is : (s after : Scan) → property_at s ≡ Ok after → s.text ≡ attribute (codes "RESOURCEPROPERTY") (codes "STANDARD") ++ after.text
 unfolding property_at attribute
@@ -59,11 +64,11 @@ min_is : (max : ℕ) (s : Scan) (x : ℕ × Scan) → min_at max s ≡ Ok x → 
 unfolding min_at
 min_is max s x h = number_between-is (codes "MINCYCLE") 1 max s x.0 x.1 h
 
-rule_text : CounterRule → List ℕ
+abbrev pub rule_text : CounterRule → List ℕ
 rule_text rule = attribute (codes "MAXALLOWEDVALUE") (decimal rule.max) ++ attribute (codes "TICKSPERBASE") (decimal rule.base) ++ attribute (codes "MINCYCLE") (decimal rule.min)
 
 rule_is : (s : Scan) (x : CounterRule × Scan) → counter_rule_at s ≡ Ok x → s.text ≡ rule_text x.0 ++ x.1.text
-unfolding counter_rule_at rule_text
+unfolding counter_rule_at
 rule_is s x h =
     let max = bind_ok (max_at s) _ x h in
     let base = bind_ok (base_at max.0.1) _ x max.2 in
@@ -74,7 +79,7 @@ rule_is s x h =
     subst P made (then s.text (attribute (codes "MAXALLOWEDVALUE") (decimal max.0.0) ++ attribute (codes "TICKSPERBASE") (decimal base.0.0)) base.0.1.text (attribute (codes "MINCYCLE") (decimal min.0.0)) min.0.1.text two (min_is max.0.0 base.0.1 min.0 min.1))
 
 pub counter-is : Spells (header (codes "  COUNTER c_")) counter_at (λ _ row. counter_text row)
-unfolding counter_at counter_text rule_text
+unfolding counter_at counter_text
 counter-is counters s h row after e o =
     let fresh_one = bind_ok (fresh (list_any (λ row. is_named h.0 row.name) counters) h.1 s) _ (row, after) o in
     let rule = bind_ok (counter_rule_at fresh_one.0) _ (row, after) fresh_one.2 in
@@ -127,12 +132,12 @@ chosen_is one other s y h =
     let P : Bool × Scan → Type 0 = λ z. s.text ≡ cond z.0 one other ++ z.1.text in
     subst P l.2 (choice_is one other s.text l.0 l.1)
 
-schedule_words : (full : Bool) → cond full (codes "    SCHEDULE = FULL;\n") (codes "    SCHEDULE = NON;\n") ≡ attribute (codes "SCHEDULE") (schedule_text full)
+pub schedule_words : (full : Bool) → cond full (codes "    SCHEDULE = FULL;\n") (codes "    SCHEDULE = NON;\n") ≡ attribute (codes "SCHEDULE") (schedule_text full)
 unfolding attribute
 schedule_words true = refl
 schedule_words false = refl
 
-auto_words : (auto : Bool) → cond auto (codes "    AUTOSTART = TRUE { APPMODE = mode; };\n") (codes "    AUTOSTART = FALSE;\n") ≡ attribute (codes "AUTOSTART") (activation_text auto)
+pub auto_words : (auto : Bool) → cond auto (codes "    AUTOSTART = TRUE { APPMODE = mode; };\n") (codes "    AUTOSTART = FALSE;\n") ≡ attribute (codes "AUTOSTART") (activation_text auto)
 unfolding attribute
 auto_words true = refl
 auto_words false = refl
@@ -155,14 +160,15 @@ pub activations_is : (s : Scan) (x : ℕ × Scan) → activations_at s ≡ Ok x 
 unfolding activations_at
 activations_is s x h = number_between-is (codes "ACTIVATION") 1 15 s x.0 x.1 h
 
-placed_is : (may : Bool) (low : ℕ) (o : Option ℕ) (s behind : Scan) (y : ℕ × Scan) → placed may low o s behind ≡ Ok y → (o ≡ Some y.0) × (behind ≡ y.1)
+pub placed_is : (may : Bool) (low : ℕ) (o : Option ℕ) (s behind : Scan) (y : ℕ × Scan) → placed may low o s behind ≡ Ok y → (o ≡ Some y.0) × (behind ≡ y.1) × (may ≡ true) × (low ≤ y.0)
 placed_is true low None s behind y h = absurd (err-ok _ y h)
 placed_is false low None s behind y h = absurd (err-ok _ y h)
 placed_is may low (Some k) s behind y h =
     let p = if_not_ok (nat_lt k low) _ _ y h in
     let q = if_ok may _ (Ok (k, behind)) y p.1 in
     let e : (k, behind) ≡ y = same_Ok (k, behind) y q.1 in
-    (ap (λ (z : ℕ × Scan). Some z.0) e, ap (λ (z : ℕ × Scan). z.1) e)
+    let P : ℕ × Scan → Type 0 = λ z. low ≤ z.0 in
+    (ap (λ (z : ℕ × Scan). Some z.0) e, ap (λ (z : ℕ × Scan). z.1) e, q.0, subst P e (ltb-false k low p.0))
 
 place_is : (name prefix : List ℕ) (may : Bool) (names : List Name)
     → Spells (reference (codes "    " ++ name ++ codes " = " ++ prefix)) (place_at may names) (λ _ k. attribute name (prefix ++ name_at names k))
@@ -179,10 +185,7 @@ places_is : (name prefix : List ℕ) (may : Bool) (names : List Name) (s : Scan)
     → s.text ≡ flat_map (λ k. attribute name (prefix ++ name_at names k)) y.0 ++ y.1.text
 unfolding places_at
 places_is name prefix may names s y h =
-    let m = many-is (reference (codes "    " ++ name ++ codes " = " ++ prefix)) (place_at may names) (λ _ k. attribute name (prefix ++ name_at names k)) (place_is name prefix may names) (length names + 1) [] s y.0 y.1 h in
-    m.2
-    ∙ ap (λ (w : List ℕ). w ++ y.1.text) (plain (λ k. attribute name (prefix ++ name_at names k)) 0 m.0)
-    ∙ ap (λ (new : List ℕ). flat_map (λ k. attribute name (prefix ++ name_at names k)) new ++ y.1.text) (sym m.1)
+    all_plain (reference (codes "    " ++ name ++ codes " = " ++ prefix)) (place_at may names) (λ k. attribute name (prefix ++ name_at names k)) (place_is name prefix may names) (length names + 1) s y h
 
 pub used_is : (resources : List Name) (s : Scan) (y : List ℕ × Scan) → used_at resources s ≡ Ok y
     → s.text ≡ flat_map (λ k. attribute (codes "RESOURCE") (codes "r_" ++ name_at resources k)) y.0 ++ y.1.text

@@ -5,4 +5,5 @@ pub mod Objects
 pub mod Tasks
 pub mod Alarms
 pub mod Reading
+pub mod Says
 pub mod Worked

@@ -3,6 +3,7 @@
 
 mod alarms;
 mod forms;
+mod law;
 mod objects;
 mod pieces;
 mod reading;
@@ -12,5 +13,6 @@ mod tasks;
 mod tests;
 mod worked;
 
+pub use law::{printed_tables_come_back, what_is_said_is_read};
 pub use reading::read_oil;
 pub use worked::{first_faults, objects_are_read, pieces_are_read};

@@ -1,9 +1,10 @@
 //! The whole text.
 
-ghost use Rattle.std.specs.Prelude.{◌≡◌, map, IfOk};
-ghost use Rattle.oil_out.specs.OilText.{oil_text};
+ghost use Rattle.std.specs.Prelude.{map, IfOk, Ok};
+ghost use Rattle.osek_core.specs.declared.tables.Tables.{Tables};
 ghost use Rattle.oil_in.specs.Scan.{Answers};
 ghost use Rattle.oil_in.specs.Reading.{opening_lines, fixed_lines, closed_at, objects_at, oil_read};
+ghost use Rattle.oil_in.specs.Says.{Says};
 
 use crate::alarms::alarms_at;
 use crate::objects::{counters_at, events_at, resources_at};
@@ -109,8 +110,12 @@ pub fn read_oil(alloc: Global, text: &[u8]) -> Result<Tables, Stop>
     // Which tables, or which fault it is, unless memory runs out.
     ensures exact { Answers (λ tables. tables) result (oil_read text.now) }
 
-    // What is read is what is printed of the tables, each byte of it.
-    ensures printed { IfOk result (λ tables. text.now ≡ oil_text tables) }
+    // Tables that are read are well configured, their names have the form of a name, and the text is what is
+    // printed of them, each byte of it.
+    ensures said { IfOk result (Says text.now) }
+
+    // The text of such tables is read as these tables, unless memory runs out.
+    ensures complete { (tables : Tables) → Says text.now tables → Answers (λ tables. tables) result (Ok tables) }
 {
     oil_of(alloc, text)
 }
