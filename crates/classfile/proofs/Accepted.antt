@@ -27,7 +27,7 @@ with_pool : (pool : List Entry) (class : ClassInfo) (s : Scan) → class.pool �
 with_pool pool class s is = record { always = λ z known. ap (λ (x : ClassInfo × Scan). x.0.pool) (ok_is z (class, s) _ refl known) ∙ is }
 
 -- the class has the pool that it was read with
-keeps_pool : (version : ℕ) (pool : List Entry) (s : Scan) (y : ClassInfo × Scan) → Ok y ≡ body_at version pool s → y.0.pool ≡ pool
+pub keeps_pool : (version : ℕ) (pool : List Entry) (s : Scan) (y : ClassInfo × Scan) → Ok y ≡ body_at version pool s → y.0.pool ≡ pool
 unfolding body_at
 keeps_pool version pool s y e =
     let P : ClassInfo × Scan → Type 0 = λ z. z.0.pool ≡ pool in
@@ -43,7 +43,7 @@ keeps_pool version pool s y e =
     with_pool pool (record { version = version; flags = flags.0; name = class_named pool this.0; super_name = class_named pool super.0; interfaces = interfaces.0; fields = fields.0; methods = methods.0; pool = pool }) end refl)))))))) in
     all.always y e
 
-no_fault : (first second : Option Refusal) (made class : ClassInfo) → Ok class ≡ unless (or_else first second) made → (first ≡ None) × (class ≡ made)
+pub no_fault : (first second : Option Refusal) (made class : ClassInfo) → Ok class ≡ unless (or_else first second) made → (first ≡ None) × (class ≡ made)
 no_fault (Some x) second made class e = absurd cc
 no_fault None (Some x) made class e = absurd cc
 no_fault None None made class e = (refl, ok_is class made _ refl e)

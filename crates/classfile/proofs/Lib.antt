@@ -5,3 +5,4 @@ pub mod Checking
 pub mod Backing
 pub mod Soundness
 pub mod Accepted
+pub mod Spelling

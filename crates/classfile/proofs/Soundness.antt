@@ -24,7 +24,7 @@ use Rattle.classfile.proofs.Backing.{Test, passes, backed, both, and_true}
 abbrev pub fits : List Entry → Test
 fits pool names i = is_none (index_fault pool names i)
 
-none_first : (a b : Option Refusal) → or_else a b ≡ None → (a ≡ None) × (b ≡ None)
+pub none_first : (a b : Option Refusal) → or_else a b ≡ None → (a ≡ None) × (b ≡ None)
 none_first (Some x) b e = absurd cc
 none_first None b e = (refl, e)
 

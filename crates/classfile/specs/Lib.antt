@@ -10,4 +10,6 @@ pub mod Reading
 pub mod Seen
 pub mod Numbers
 pub mod Sound
+pub mod Spelled
+pub mod SpellingLaw
 pub mod Worked

@@ -8,6 +8,7 @@ mod class;
 mod codes;
 mod entries;
 mod faults;
+mod law;
 mod member;
 mod members;
 #[cfg(test)]
@@ -28,6 +29,7 @@ mod worked;
 
 pub use access::Access;
 pub use class::{Class, Code, Field, Method};
+pub use law::class_files_are_spelled;
 pub use member::{Constant, Member, MemberKind};
 pub use reading::read_class;
 pub use worked::{class_files, first_faults, pool_entries};
