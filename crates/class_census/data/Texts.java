@@ -1,0 +1,6 @@
+/** Text constants, which are outside. */
+class Texts {
+    static String name(boolean low) {
+        return low ? "low" : "high";
+    }
+}
