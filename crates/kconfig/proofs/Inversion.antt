@@ -4,10 +4,10 @@ use Rattle.std.proofs.lemmas.Slice.Eq.{bytes_eq-Decides}
 use Rattle.std.proofs.lemmas.Bool.Decides.{nat_tests}
 use Rattle.kes_text.specs.declared.refusal.Stop.{Stop}
 use Rattle.kes_text.specs.declared.refusal.Kind.{Kind}
-use Rattle.kconfig.specs.Said.{◌>>=◌, check, known}
-use Rattle.kconfig.specs.declared.number.Number.{Number}
-use Rattle.kconfig.specs.declared.number.Number.TheVariants.{Malformed, Large, Value}
-use Rattle.kconfig.specs.Numbers.{within, value}
+use Rattle.text_words.specs.Said.{◌>>=◌, check, known}
+use Rattle.text_words.specs.declared.number.Number.{Number}
+use Rattle.text_words.specs.declared.number.Number.TheVariants.{Malformed, Large, Value}
+use Rattle.text_words.specs.Numbers.{within, value}
 use Rattle.kconfig.proofs.Stepping.{not_both}
 
 pub both_true : (a b : Bool) → a && b ≡ true → (a ≡ true) × (b ≡ true)

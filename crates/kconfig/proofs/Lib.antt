@@ -7,5 +7,4 @@ pub mod Rows
 pub mod Saying
 pub mod Soundness
 pub mod Stepping
-pub mod TextLineLemmas
 pub mod WellConfigured

@@ -19,9 +19,9 @@ use Rattle.kconfig.specs.declared.config.UseLine.{UseLine}
 use Rattle.kconfig.specs.declared.config.WaitLine.{WaitLine}
 use Rattle.kconfig.specs.declared.config.AlarmLine.{AlarmLine}
 use Rattle.kconfig.specs.declared.config.StartLine.{StartLine}
-use Rattle.kconfig.specs.declared.number.Number.{Number}
-use Rattle.kconfig.specs.Said.{known}
-use Rattle.kconfig.specs.Numbers.{number_of, within, value, are_both_numbers}
+use Rattle.text_words.specs.declared.number.Number.{Number}
+use Rattle.text_words.specs.Said.{known}
+use Rattle.text_words.specs.Numbers.{number_of, within, value, are_both_numbers}
 use Rattle.kconfig.specs.Words.{is_name}
 use Rattle.kconfig.specs.Config.{Before}
 use Rattle.kconfig.specs.Names.{named, counter_named, task_named, alarm_named, domain_named}

@@ -24,8 +24,8 @@ use Rattle.kconfig.specs.declared.config.StartLine.{StartLine}
 use Rattle.kconfig.specs.declared.config.KesoLine.{KesoLine}
 use Rattle.kconfig.specs.declared.config.Line.{Line}
 use Rattle.kconfig.specs.declared.config.Line.TheVariants as line
-use Rattle.kconfig.specs.Said.{◌>>=◌, OrNoMemory}
-use Rattle.kconfig.specs.TextLines.{words}
+use Rattle.text_words.specs.Said.{◌>>=◌, OrNoMemory}
+use Rattle.text_words.specs.TextLines.{words}
 use Rattle.kconfig.specs.Config.{Before, first_config, with_line}
 use Rattle.kconfig.specs.Names.{named, task_named}
 use Rattle.kconfig.specs.Limits.{IsSmall}

@@ -7,9 +7,9 @@ use Rattle.kes_text.specs.declared.refusal.Stop.{Stop}
 use Rattle.kes_text.specs.declared.refusal.Stop.TheVariants.{Refused, NoMemory}
 use Rattle.kconfig.specs.declared.config.Config.{Config}
 use Rattle.kconfig.specs.declared.config.Line.{Line}
-use Rattle.kconfig.specs.Said.{◌>>=◌, OrNoMemory}
+use Rattle.text_words.specs.Said.{◌>>=◌, OrNoMemory}
 use Rattle.kconfig.specs.Config.{Before, with_line, after}
-use Rattle.kconfig.specs.TextLines.{words}
+use Rattle.text_words.specs.TextLines.{words}
 use Rattle.kconfig.specs.Reading.{line_of, config_with}
 
 or_else : {A : Type 0} → A → Result A Stop → A

@@ -8,9 +8,9 @@ use Rattle.kconfig.specs.declared.config.AlarmLine.{AlarmLine}
 use Rattle.kconfig.specs.declared.config.StartLine.{StartLine}
 use Rattle.kconfig.specs.declared.config.CounterLine.{CounterLine}
 use Rattle.kconfig.specs.declared.config.Config.{Config}
-use Rattle.kconfig.specs.Said.{◌>>=◌, refused, check, known}
-use Rattle.kconfig.specs.declared.number.Number.{Number}
-use Rattle.kconfig.specs.Numbers.{number_of, are_both_numbers, within, value}
+use Rattle.text_words.specs.Said.{◌>>=◌, refused, check, known}
+use Rattle.text_words.specs.declared.number.Number.{Number}
+use Rattle.text_words.specs.Numbers.{number_of, are_both_numbers, within, value}
 use Rattle.kconfig.specs.Words.{is_name}
 use Rattle.kconfig.specs.Config.{Before}
 use Rattle.kconfig.specs.Names.{named, counter_named, task_named, alarm_named}

@@ -9,10 +9,11 @@ use Rattle.kconfig.specs.declared.config.CounterLine.{CounterLine}
 use Rattle.kconfig.specs.declared.config.NameLine.{NameLine}
 use Rattle.kconfig.specs.declared.config.CellLine.{CellLine}
 use Rattle.kconfig.specs.declared.config.ObjectLine.{ObjectLine}
-use Rattle.kconfig.specs.Said.{◌>>=◌, refused, check, known}
-use Rattle.kconfig.specs.declared.number.Number.{Number}
-use Rattle.kconfig.specs.Numbers.{number_of, is_number, are_both_numbers, within, value}
-use Rattle.kconfig.specs.Words.{is_name, is_shown_name, is_field, is_either}
+use Rattle.text_words.specs.Said.{◌>>=◌, refused, check, known}
+use Rattle.text_words.specs.declared.number.Number.{Number}
+use Rattle.text_words.specs.Numbers.{number_of, is_number, are_both_numbers, within, value}
+use Rattle.text_words.specs.Words.{is_either}
+use Rattle.kconfig.specs.Words.{is_name, is_shown_name, is_field}
 use Rattle.kconfig.specs.Config.{Before}
 use Rattle.kconfig.specs.Names.{named, domain_named, counter_named, object_named, has_cell}
 

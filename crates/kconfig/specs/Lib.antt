@@ -1,6 +1,3 @@
-pub mod Said
-pub mod TextLines
-pub mod Numbers
 pub mod Words
 pub mod Config
 pub mod Limits

@@ -13,9 +13,9 @@ use Rattle.kconfig.specs.declared.config.Service.{Service}
 use Rattle.kconfig.specs.declared.config.Service.TheVariants as service
 use Rattle.kconfig.specs.declared.service_words.ServiceWord.{ServiceWord}
 use Rattle.kconfig.specs.declared.service_words.ServiceWord.TheVariants as by
-use Rattle.kconfig.specs.Said.{◌>>=◌, refused, check, known}
-use Rattle.kconfig.specs.declared.number.Number.{Number}
-use Rattle.kconfig.specs.Numbers.{number_of, is_number, within, value}
+use Rattle.text_words.specs.Said.{◌>>=◌, refused, check, known}
+use Rattle.text_words.specs.declared.number.Number.{Number}
+use Rattle.text_words.specs.Numbers.{number_of, is_number, within, value}
 use Rattle.kconfig.specs.Words.{is_method}
 use Rattle.kconfig.specs.Config.{Before}
 use Rattle.kconfig.specs.Names.{named, domain_named, task_named, alarm_named, object_named, is_bound}

@@ -6,8 +6,8 @@ use Rattle.kes_text.specs.declared.refusal.Kind.TheVariants as kind
 use Rattle.kconfig.specs.declared.config.Config.{Config}
 use Rattle.kconfig.specs.declared.config.Line.{Line}
 use Rattle.kconfig.specs.declared.config.Line.TheVariants as line
-use Rattle.kconfig.specs.Said.{◌>>=◌, refused}
-use Rattle.kconfig.specs.TextLines.{all_lines, spoken_lines, words}
+use Rattle.text_words.specs.Said.{◌>>=◌, refused}
+use Rattle.text_words.specs.TextLines.{all_lines, spoken_lines, words}
 use Rattle.kconfig.specs.Config.{Before, first_config, with_line, after}
 use Rattle.kconfig.specs.Devices.{keso_line, devices_line, domain_line, counter_line, name_line, cell_line, object_line}
 use Rattle.kconfig.specs.Tasks.{task_line, use_line, wait_line}

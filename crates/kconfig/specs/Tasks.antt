@@ -8,10 +8,11 @@ use Rattle.kconfig.specs.declared.config.TaskLine.{TaskLine}
 use Rattle.kconfig.specs.declared.config.UseLine.{UseLine}
 use Rattle.kconfig.specs.declared.config.WaitLine.{WaitLine}
 use Rattle.kconfig.specs.declared.config.Config.{Config}
-use Rattle.kconfig.specs.Said.{◌>>=◌, refused, check, known}
-use Rattle.kconfig.specs.declared.number.Number.{Number}
-use Rattle.kconfig.specs.Numbers.{number_of, is_number, within, value}
-use Rattle.kconfig.specs.Words.{is_name, is_entry, is_either}
+use Rattle.text_words.specs.Said.{◌>>=◌, refused, check, known}
+use Rattle.text_words.specs.declared.number.Number.{Number}
+use Rattle.text_words.specs.Numbers.{number_of, is_number, within, value}
+use Rattle.text_words.specs.Words.{is_either}
+use Rattle.kconfig.specs.Words.{is_name, is_entry}
 use Rattle.kconfig.specs.Config.{Before}
 use Rattle.kconfig.specs.Names.{named, domain_named, task_named}
 

@@ -1,5 +1,5 @@
 -- The forms of the words of a configuration.
-use Rattle.std.specs.Prelude.{ℕ, ◌-◌, ◌==◌, nat_le, Bool, false, ◌&&◌, ◌||◌, List, [], ◌∷◌, reverse, take, drop, length, Option, Some, None, bytes_eq}
+use Rattle.std.specs.Prelude.{ℕ, ◌-◌, ◌==◌, nat_le, Bool, false, ◌&&◌, ◌||◌, List, [], ◌∷◌, reverse, take, drop, length, Option, Some, None}
 use Rattle.std.specs.List.{list_all, list_any, position}
 
 abbrev pub is_letter : ℕ → Bool
@@ -57,7 +57,3 @@ has_call (c ∷ cs) = (is_dot c && list_any (λ d. d == 40) cs) || has_call cs
 -- METHOD, in the way of `Class/Name.method(desc)ret`
 abbrev pub is_method : List ℕ → Bool
 is_method word = list_all is_shown word && has_call word
-
--- one of two words
-abbrev pub is_either : List ℕ → List ℕ → List ℕ → Bool
-is_either first second word = bytes_eq word first || bytes_eq word second

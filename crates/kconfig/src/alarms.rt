@@ -2,17 +2,16 @@
 
 ghost use Rattle.std.specs.Prelude.{◌≡◌, ◌<◌, map, length, IfOk, OnOk, slice_get};
 ghost use Rattle.std.specs.Option.{option_copied};
-ghost use Rattle.kconfig.specs.Said.{OrNoMemory};
+ghost use Rattle.text_words.specs.Said.{OrNoMemory};
 ghost use Rattle.kconfig.specs.Alarms.{alarm_head, alarm_activates, alarm_sets, are_alarm_words, alarm_line, start_fits, counter_at, has_start, are_sized, start_said, are_start_words, start_line};
 
 use crate::config::{AlarmLine, Config, CounterLine, StartLine};
-use crate::number::{Number, are_both_numbers, number_of};
 use crate::reader::Reader;
-use crate::said::{check, refusal};
-use crate::words::{is_name, is_word};
+use crate::words::is_name;
 use kes_text::{Kind, Stop};
 use osek_core::Action;
 use sqlite_items::Items;
+use text_words::{Number, are_both_numbers, check, is_word, number_of, refusal};
 use std::alloc::Global;
 
 const MOST_ALARMS: usize = 64;

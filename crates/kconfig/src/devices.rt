@@ -1,19 +1,18 @@
 //! The lines of devices, domains, counters, events, resources, cells and objects.
 
 ghost use Rattle.std.specs.Prelude.{◌≡◌, ◌<◌, ◌≤◌, map, length, IfOk, OnOk, IfSome, slice_index_or, []};
-ghost use Rattle.kconfig.specs.Said.{OrNoMemory};
+ghost use Rattle.text_words.specs.Said.{OrNoMemory};
 ghost use Rattle.kconfig.specs.Limits.{IsCounterSmall};
 ghost use Rattle.kconfig.specs.Devices.{keso_form, keso_line, is_multiple_within, devices_said, are_devices_words, devices_line, domain_said, domain_line, are_numbers, counter_fits, counter_said, are_counter_words, counter_line, name_said, name_line, width_of, is_cell_place, cell_said, are_cell_words, cell_line, object_said, are_object_words, object_line};
 
 use crate::config::{
     CellLine, CounterLine, DevicesLine, DomainLine, KesoLine, NameLine, ObjectLine,
 };
-use crate::number::{Number, are_both_numbers, number_of};
 use crate::reader::{Reader, named};
-use crate::said::{check, refusal};
-use crate::words::{is_either, is_field, is_name, is_shown_name, is_word};
+use crate::words::{is_field, is_name, is_shown_name};
 use kes_text::{Kind, Stop};
 use sqlite_items::Items;
+use text_words::{Number, are_both_numbers, check, is_either, is_word, number_of, refusal};
 use std::alloc::Global;
 
 const MOST_DOMAINS: usize = 16;

@@ -6,10 +6,8 @@ mod config;
 mod devices;
 mod kernel_tables;
 mod methods;
-mod number;
 mod reader;
 mod reading;
-mod said;
 mod service_words;
 #[cfg(test)]
 mod table_tests;
@@ -18,7 +16,6 @@ mod task_rows;
 mod tasks;
 #[cfg(test)]
 mod tests;
-mod text_lines;
 mod word_set;
 mod words;
 mod worked;

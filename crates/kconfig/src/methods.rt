@@ -1,19 +1,18 @@
 //! The lines of native methods, devices and portals.
 
 ghost use Rattle.std.specs.Prelude.{◌≡◌, ◌<◌, ◌≤◌, ◌&&◌, map, length, IfOk, OnOk, slice_index_or, []};
-ghost use Rattle.kconfig.specs.Said.{OrNoMemory};
+ghost use Rattle.text_words.specs.Said.{OrNoMemory};
 ghost use Rattle.kconfig.specs.Names.{named, task_named, alarm_named};
 ghost use Rattle.kconfig.specs.Methods.{joined, each_once, is_event_list, mask_with, mask_named, is_bare, takes, is_set_event, has_form, bare_service, task_service, resource_service, alarm_service, event_service, service_with, set_event, service_named, native_said, native_line, device_said, device_line, portal_said, are_portal_words, portal_line};
 
 use crate::config::{DeviceLine, NameLine, NativeLine, PortalLine, Service};
-use crate::number::{Number, number_of};
 use crate::reader::{Reader, named};
-use crate::said::{check, refusal};
 use crate::service_words::{ServiceWord, service_word};
 use crate::word_set::WordSet;
-use crate::words::{is_method, is_word};
+use crate::words::is_method;
 use kes_text::{Kind, NoMemory, Stop};
 use sqlite_items::Items;
+use text_words::{Number, check, is_word, number_of, refusal};
 use std::alloc::Global;
 
 const MOST_PORTALS: usize = 256;

@@ -1,10 +1,10 @@
 //! Reading a configuration.
 
 ghost use Rattle.std.specs.Prelude.{◌≡◌, ◌++◌, map, IfOk, OnOk, slice_index_or, []};
-ghost use Rattle.kconfig.specs.Said.{OrNoMemory};
+ghost use Rattle.text_words.specs.Said.{OrNoMemory};
 ghost use Rattle.kconfig.specs.Limits.{IsSmall, Fits, IsKey};
 ghost use Rattle.kconfig.specs.Sound.{IsSound};
-ghost use Rattle.kconfig.specs.TextLines.{words};
+ghost use Rattle.text_words.specs.TextLines.{words};
 ghost use Rattle.kconfig.specs.Reading.{line_by, line_of, behind_line, wait_words, waits_of, config_from, config_of};
 
 use crate::alarms::{alarm_line, start_line};
@@ -14,11 +14,9 @@ use crate::devices::{
 };
 use crate::methods::{device_line, native_line, portal_line};
 use crate::reader::{Reader, WaitWords};
-use crate::said::refusal;
 use crate::tasks::{task_line, use_line, wait_line};
-use crate::text_lines::{TextLine, text_lines};
-use crate::words::{is_word, words};
 use kes_text::{Kind, NoMemory, Stop};
+use text_words::{TextLine, is_word, refusal, text_lines, words};
 use std::alloc::Global;
 
 const MOST_EVENTS: usize = 31;

@@ -3,7 +3,7 @@
 ghost use Rattle.std.specs.Prelude.{◌≡◌};
 ghost use Rattle.kconfig.specs.Methods.{service_word, is_bare, is_set_event};
 
-use crate::words::is_word;
+use text_words::is_word;
 
 /// The name of a service.
 #[derive(Clone, Copy, Debug, PartialEq, Eq)]

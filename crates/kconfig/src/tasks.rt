@@ -1,17 +1,16 @@
 //! The lines of tasks, and of their resources and events.
 
 ghost use Rattle.std.specs.Prelude.{◌≡◌, ◌<◌, map, length, IfOk, OnOk};
-ghost use Rattle.kconfig.specs.Said.{OrNoMemory};
+ghost use Rattle.text_words.specs.Said.{OrNoMemory};
 ghost use Rattle.kconfig.specs.Limits.{IsTaskSmall};
 ghost use Rattle.kconfig.specs.Tasks.{are_task_words, are_choice_words, task_form, task_fits, task_said, task_choices, task_line, use_stands, use_said, use_line, may_wait, wait_stands, wait_said, wait_line};
 
 use crate::config::{Config, TaskLine, UseLine, WaitLine};
-use crate::number::{Number, number_of};
 use crate::reader::Reader;
-use crate::said::{check, refusal};
-use crate::words::{is_either, is_entry, is_name, is_word};
+use crate::words::{is_entry, is_name};
 use kes_text::{Kind, Stop};
 use sqlite_items::Items;
+use text_words::{Number, check, is_either, is_word, number_of, refusal};
 use std::alloc::Global;
 
 const MOST_TASKS: usize = 64;

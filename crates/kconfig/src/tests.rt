@@ -1,7 +1,4 @@
-ghost use Rattle.std.specs.Prelude.{◌≡◌, ◌∷◌, [], true, false, codes, Some};
-ghost use Rattle.kconfig.specs.declared.number.Number.TheVariants.{Malformed, Large, Value};
-ghost use Rattle.kconfig.specs.Numbers.{number_of};
-ghost use Rattle.kconfig.specs.TextLines.{words, spoken_lines};
+ghost use Rattle.std.specs.Prelude.{◌≡◌, true, false, codes, Some};
 ghost use Rattle.kconfig.specs.Words.{is_name, is_entry, is_field, is_method, parts};
 
 use super::*;
@@ -11,13 +8,6 @@ use std::test::Fail;
 
 /// What the definitions give at examples worked out by hand.
 fn worked_examples()
-    ensures decimal { number_of (codes "007") ≡ Value 7 }
-    ensures hexadecimal { number_of (codes "0x1f") ≡ Value 31 }
-    ensures large { number_of (codes "18446744073709551616") ≡ Large }
-    ensures greatest { number_of (codes "18446744073709551615") ≡ Value 18446744073709551615 }
-    ensures no_digits { number_of (codes "0x") ≡ Malformed }
-    ensures blanks { words (codes "  a  bc ") ≡ codes "a" ∷ codes "bc" ∷ [] }
-    ensures lines { spoken_lines (codes "a\r\n #\n\nb\r") ≡ (1, codes "a") ∷ (4, codes "b\r") ∷ [] }
     ensures last_dot { parts (codes "a.b.c") ≡ Some (codes "a.b", codes "c") }
     ensures entry { is_entry (codes "a/B.run") ≡ true }
     ensures digit_first { is_entry (codes "B.9") ≡ false }

@@ -1,7 +1,7 @@
 use Rattle.std.proofs.Common.{ℕ, List, sym}
-use Rattle.kconfig.specs.TextLines.{words}
+use Rattle.text_words.specs.TextLines.{words}
 use Rattle.kconfig.specs.Reading.{wait_words}
-use Rattle.kconfig.specs.declared.text_lines.TextLine.{TextLine}
+use Rattle.text_words.specs.declared.line.TextLine.{TextLine}
 use Rattle.kconfig.proofs.Stepping.{flat_of_map}
 use Rattle.kconfig.proofs.reading.waits_of.Goals as goal
 

@@ -1,6 +1,6 @@
 use Rattle.std.proofs.Common.{◌≡◌, ◌++◌, map, drop}
 use Rattle.std.specs.List.{flat_map}
-use Rattle.kconfig.specs.TextLines.{words}
+use Rattle.text_words.specs.TextLines.{words}
 use Rattle.kconfig.specs.Reading.{wait_words, waits_of}
 use Rattle.kconfig.proofs.reading.waits_of.Given as goal
 

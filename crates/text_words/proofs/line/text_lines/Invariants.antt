@@ -3,8 +3,8 @@ use Rattle.std.proofs.Common.{◌≡◌, ◌+◌, ◌-◌, ◌≤◌, ◌++◌, 
 use Rattle.std.specs.List.{flat_map, enumerate_from}
 use Rattle.kes_text.specs.Lines.{lines}
 use Rattle.kes_text.specs.Reading.{rest}
-use Rattle.kconfig.specs.TextLines.{without_returns, spoken, all_lines, spoken_lines}
-use Rattle.kconfig.proofs.text_lines.text_lines.Given as goal
+use Rattle.text_words.specs.TextLines.{without_returns, spoken, all_lines, spoken_lines}
+use Rattle.text_words.proofs.line.text_lines.Given as goal
 
 abbrev pub invariant-loop-text : goal.invariant-loop-text
 invariant-loop-text l = record {

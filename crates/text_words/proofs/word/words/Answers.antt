@@ -2,8 +2,8 @@
 use Rattle.std.proofs.Common.{nat_lt, length, rules, tests}
 use Rattle.std.proofs.lemmas.Iterator.Consumers.{map_from_collect, YieldsList-from_filter, YieldsList-at}
 use Rattle.std.proofs.lemmas.Iterator.Splits.{YieldsList-from_slice_split}
-use Rattle.kconfig.specs.TextLines.{is_space}
-use Rattle.kconfig.proofs.words.words.Goals as goal
+use Rattle.text_words.specs.TextLines.{is_space}
+use Rattle.text_words.proofs.word.words.Goals as goal
 
 pub returns : goal.returns
 returns c =

@@ -3,7 +3,7 @@
 ghost use Rattle.std.specs.Prelude.{◌≡◌, ◌+◌, ◌<◌, ◌≤◌, ◌∷◌, ◌++◌, [], map, length, IfOk, OnOk, OnSome, MatchOption};
 ghost use Rattle.kes_text.specs.Lines.{lines};
 ghost use Rattle.kes_text.specs.Reading.{rest};
-ghost use Rattle.kconfig.specs.TextLines.{without_returns, is_skipped, ends_in_return, chomp, spoken, all_lines, spoken_lines};
+ghost use Rattle.text_words.specs.TextLines.{without_returns, is_skipped, ends_in_return, chomp, spoken, all_lines, spoken_lines};
 
 use kes_text::{Cursor, NoMemory};
 use std::alloc::Global;

@@ -2,7 +2,7 @@
 
 ghost use Rattle.std.specs.Prelude.{◌≡◌};
 ghost use Rattle.kes_text.specs.declared.refusal.Stop.TheVariants.{Refused};
-ghost use Rattle.kconfig.specs.Said.{check};
+ghost use Rattle.text_words.specs.Said.{check};
 
 use kes_text::{Kind, Refusal, Stop};
 

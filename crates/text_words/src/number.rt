@@ -1,7 +1,7 @@
 //! The numbers of a configuration.
 
 ghost use Rattle.std.specs.Prelude.{◌≡◌, ◌≤◌};
-ghost use Rattle.kconfig.specs.Numbers.{digit_value, digit, numeral, sized, with_digit, hexadecimal, number_of, is_number, are_both_numbers, within, value};
+ghost use Rattle.text_words.specs.Numbers.{digit_value, digit, numeral, sized, with_digit, hexadecimal, number_of, is_number, are_both_numbers, within, value};
 
 /// What a word in the place of a number is.
 #[derive(Clone, Copy, Debug, PartialEq, Eq)]
@@ -60,8 +60,8 @@ fn digit_value(byte: u8) -> Option<u64>
     }
 }
 
-/// A digit to the base.
-fn digit(base: u64, byte: u8) -> Option<u64>
+/// What a digit to a base up to 16 says.
+pub fn digit(base: u64, byte: u8) -> Option<u64>
     ensures { result ≡ digit base byte }
 {
     match digit_value(byte) {

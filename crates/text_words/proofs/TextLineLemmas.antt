@@ -5,7 +5,7 @@ use Rattle.std.proofs.lemmas.Bool.Decides.{nat_tests}
 use Rattle.std.proofs.lemmas.Grind.{common_steps}
 use Rattle.kes_text.specs.Lines.{is_line_feed, put_first, lines}
 use Rattle.kes_text.specs.Reading.{Reading, rest, next_line, behind_line}
-use Rattle.kconfig.specs.TextLines.{without_returns, chomp}
+use Rattle.text_words.specs.TextLines.{without_returns, chomp}
 
 take-cons : (n b : ℕ) (bs : List ℕ) → take (1 + n) (b ∷ bs) ≡ b ∷ take n bs
 take-cons n b bs = let e : 1 + n ≡ suc n = omega arith in rw e refl

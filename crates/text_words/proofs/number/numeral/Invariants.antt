@@ -1,7 +1,7 @@
 -- The number so far, as it is and as it is kept.
 use Rattle.std.proofs.Common.{◌≡◌, ℕ, drop}
-use Rattle.kconfig.specs.Numbers.{numeral, capped}
-use Rattle.kconfig.proofs.number.numeral.Given as goal
+use Rattle.text_words.specs.Numbers.{numeral, capped}
+use Rattle.text_words.proofs.number.numeral.Given as goal
 
 abbrev pub invariant-loop-byte : goal.invariant-loop-byte
 invariant-loop-byte l =

@@ -1,8 +1,8 @@
 -- The numbers of a configuration: decimal, or `0x` and 1 to 16 hexadecimal digits.
 use Rattle.std.specs.Prelude.{ℕ, ◌+◌, ◌-◌, ◌*◌, ◌^◌, ◌==◌, nat_le, nat_lt, Bool, true, false, ◌&&◌, List, [], ◌∷◌, length, Option, Some, None, if◌then◌else◌}
 use Rattle.std.specs.Option.{option_and_then}
-use Rattle.kconfig.specs.declared.number.Number.{Number}
-use Rattle.kconfig.specs.declared.number.Number.TheVariants.{Malformed, Large, Value}
+use Rattle.text_words.specs.declared.number.Number.{Number}
+use Rattle.text_words.specs.declared.number.Number.TheVariants.{Malformed, Large, Value}
 
 -- `0` to `9`, `a` to `f` and `A` to `F`
 abbrev pub digit_value : ℕ → Option ℕ

@@ -1,19 +1,9 @@
 -- What a line says, or why the text is refused at it.
-use Rattle.std.specs.Prelude.{◌≡◌, ℕ, Bool, Option, Some, None, Result, Ok, Err, if◌then◌else◌}
+pub use Rattle.kes_text.specs.Answers.{◌>>=◌, OrNoMemory}
+use Rattle.std.specs.Prelude.{ℕ, Bool, Option, Some, None, Result, Ok, Err, if◌then◌else◌}
 use Rattle.kes_text.specs.declared.refusal.Stop.{Stop}
-use Rattle.kes_text.specs.declared.refusal.Stop.TheVariants.{Refused, NoMemory}
+use Rattle.kes_text.specs.declared.refusal.Stop.TheVariants.{Refused}
 use Rattle.kes_text.specs.declared.refusal.Kind.{Kind}
-
-infixl 10 ◌>>=◌
-abbrev pub ◌>>=◌ : {A B : Type 0} → Result A Stop → (A → Result B Stop) → Result B Stop
-(Ok x) >>= f = f x
-(Err e) >>= f = Err e
-
--- what a call answers is what the definition says, or that there is no memory
-abbrev pub OrNoMemory : {A : Type 0} → Result A Stop → Result A Stop → Type 0
-OrNoMemory (Ok x) defined = Ok x ≡ defined
-OrNoMemory (Err (Refused r)) defined = Err (Refused r) ≡ defined
-OrNoMemory (Err NoMemory) defined = Unit {0}
 
 -- the text is refused at a line
 abbrev pub refused : {A : Type 0} → Kind → ℕ → Result A Stop

@@ -1,9 +1,9 @@
 use Rattle.std.proofs.Common.{◌<◌, ◌≤◌, ◌-◌, ℕ, List, ◌∷◌, length, refl, sym, ap, ◌∙◌}
 use Rattle.kes_text.specs.Lines.{lines}
 use Rattle.kes_text.specs.Reading.{rest}
-use Rattle.kconfig.specs.TextLines.{without_returns}
-use Rattle.kconfig.proofs.TextLineLemmas.{feed_case, last_case}
-use Rattle.kconfig.proofs.text_lines.next_line.Goals as goal
+use Rattle.text_words.specs.TextLines.{without_returns}
+use Rattle.text_words.proofs.TextLineLemmas.{feed_case, last_case}
+use Rattle.text_words.proofs.line.next_line.Goals as goal
 
 pub returns-then-passed-line-clause-lines : goal.returns-then-passed-line-clause-lines
 returns-then-passed-line-clause-lines c =
