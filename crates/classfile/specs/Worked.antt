@@ -3,3 +3,4 @@ pub mod Files
 pub mod ClassFiles
 pub mod PoolEntries
 pub mod Faults
+pub mod Spellings

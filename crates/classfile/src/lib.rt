@@ -32,4 +32,4 @@ pub use class::{Class, Code, Field, Method};
 pub use law::class_files_are_spelled;
 pub use member::{Constant, Member, MemberKind};
 pub use reading::read_class;
-pub use worked::{class_files, first_faults, pool_entries};
+pub use worked::{class_files, first_faults, pool_entries, spelled_files};

@@ -2,6 +2,7 @@
 
 ghost use Rattle.classfile.specs.Worked.ClassFiles.{SmallestIsRead, FirstConstantCounts, FirstMapsCount, NativeHasNoCode};
 ghost use Rattle.classfile.specs.Worked.PoolEntries.{HandlesRefer, HandlesByVersion, MethodTypesAreMethods, DescriptorsAreOfTheirKind, ArraysAreDescriptors, WideTakeTwo, TagsAreKnown};
+ghost use Rattle.classfile.specs.Worked.Spellings.{SmallestIsSpelled, LastIsWide, FaultsSpellNone};
 ghost use Rattle.classfile.specs.Worked.Faults.{VersionsAreBounded, CodesAreCounted, LengthsAreKept, MembersDiffer, StructureComesFirst};
 
 /// Small class files and what they say.
@@ -30,4 +31,11 @@ pub fn first_faults()
     ensures lengths { LengthsAreKept }
     ensures members { MembersDiffer }
     ensures structure { StructureComesFirst }
+{}
+
+/// Bytes that spell a class file, and bytes that spell none.
+pub fn spelled_files()
+    ensures smallest { SmallestIsSpelled }
+    ensures wide { LastIsWide }
+    ensures faults { FaultsSpellNone }
 {}
