@@ -1,8 +1,10 @@
 //! Reading a class file (JVMS SE 8, 4.1).
 
-ghost use Rattle.std.specs.Prelude.{◌≡◌, IfOk};
+ghost use Rattle.std.specs.Prelude.{◌≡◌, Ok, IfOk};
+ghost use Rattle.classfile.specs.ClassFile.{ClassInfo};
 ghost use Rattle.classfile.specs.Scan.{OrNoMemory};
 ghost use Rattle.classfile.specs.Sound.{IsSound};
+ghost use Rattle.classfile.specs.Spelled.{IsSpelled};
 ghost use Rattle.classfile.specs.Reading.{version_at, class_named, super_at, interface_at, interfaces_at, ended, body_at, structure_at, class_file};
 
 use crate::access::Access;
@@ -172,6 +174,10 @@ pub fn read_class(alloc: Global, bytes: &[u8]) -> Result<Class<'_>, Stop>
     ensures exact { OrNoMemory result (class_file bytes.now) }
     // No index of an accepted constant pool is broken: each class and member that it names is told.
     ensures sound { IfOk result (λ class. IsSound class.pool) }
+    // What is answered is what all of the bytes spell.
+    ensures spelled { IfOk result (λ class. IsSpelled class bytes.now) }
+    // What bytes spell is answered.
+    ensures only { (class : ClassInfo) → IsSpelled class bytes.now → OrNoMemory result (Ok class) }
 {
     class_of(alloc, bytes)
 }

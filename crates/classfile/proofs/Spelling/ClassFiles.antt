@@ -1,5 +1,5 @@
 -- What is accepted is spelled so, and what is spelled so is accepted.
-use Rattle.std.proofs.Common.{◌≡◌, ℕ, ◌+◌, ◌==◌, Bool, true, false, List, [], ◌∷◌, ◌++◌, length, Option, Some, None, Result, Ok, if◌then◌else◌, append-nil, length-append, refl, sym, ap, subst, ◌∙◌, arith, eqb-true, eq-eqb}
+use Rattle.std.proofs.Common.{◌≡◌, ℕ, ◌+◌, ◌==◌, Bool, true, false, List, [], ◌∷◌, ◌++◌, length, Option, Some, None, Result, Ok, Err, IfOk, if◌then◌else◌, append-nil, length-append, refl, sym, ap, subst, ◌∙◌, arith, eqb-true, eq-eqb}
 use Rattle.std.proofs.lemmas.List.Folds.{list_all-append}
 use Rattle.kes_text.specs.declared.refusal.Refusal.{Refusal}
 use Rattle.kes_text.specs.declared.refusal.Stop.{Stop}
@@ -7,7 +7,7 @@ use Rattle.kes_text.specs.declared.refusal.Kind.TheVariants as kind
 use Rattle.classfile.specs.declared.pool.Entry.{Entry}
 use Rattle.classfile.specs.ClassFile.{ClassInfo}
 use Rattle.classfile.specs.Seen.{Key}
-use Rattle.classfile.specs.Scan.{Scan, Read, ◌>>=◌, refused, anew}
+use Rattle.classfile.specs.Scan.{Scan, Read, OrNoMemory, ◌>>=◌, refused, anew}
 use Rattle.classfile.specs.Entries.{pool_at}
 use Rattle.classfile.specs.Faults.{or_else, first_fault}
 use Rattle.classfile.specs.Reading.{version_at, class_named, ended, body_at, structure_at, unless, class_file}
@@ -297,3 +297,11 @@ spelled bytes class h =
 
 pub once : (bytes : List ℕ) (one other : ClassInfo) → IsSpelled one bytes → IsSpelled other bytes → one ≡ other
 once bytes one other h k = ok_is one other (class_file bytes) (spelled bytes other k) (sym (spelled bytes one h))
+
+-- whatever the reading answers
+pub spelled_of : (bytes : List ℕ) (r : Result ClassInfo Stop) → OrNoMemory r (class_file bytes) → IfOk r (λ class. IsSpelled class bytes)
+spelled_of bytes (Ok class) e = accepted bytes class (sym e)
+spelled_of bytes (Err stop) e = tt
+
+pub answered_only : (bytes : List ℕ) (class : ClassInfo) (r : Result ClassInfo Stop) → IsSpelled class bytes → OrNoMemory r (class_file bytes) → OrNoMemory r (Ok class)
+answered_only bytes class r h e = subst (OrNoMemory r) (spelled bytes class h) e
