@@ -1,5 +1,5 @@
--- Which tables an OIL text says: those of which it is the text, where they are well configured and their names have the form
--- of a name.
+-- Which tables an OIL text says (OIL 2.5, section 3): those of which it is the text, where they are well configured and their
+-- names have the form of a name.
 use Rattle.std.specs.Prelude.{◌≡◌, ◌≤◌, ◌↔◌, ℕ, true, List, length, All, Ok}
 use Rattle.osek_core.specs.declared.tables.Name.{Name}
 use Rattle.osek_core.specs.declared.tables.Tables.{Tables}
@@ -8,12 +8,13 @@ use Rattle.oil_out.specs.OilText.{oil_text}
 use Rattle.oil_in.specs.Pieces.{begins_with_letter, is_name_byte}
 use Rattle.oil_in.specs.Reading.{oil_read}
 
--- a letter, and then letters, digits or `_`, at most 32 bytes in all
+-- the form of a name: a letter, and then letters, digits or `_`, at most 32 bytes in all
 pub record IsName (name : Name) : Type 0 where
   pub begins : begins_with_letter name.text ≡ true
   pub each : All (λ byte. is_name_byte byte ≡ true) name.text
   pub short : length name.text ≤ 32
 
+-- each name has that form
 pub record HasNames (tables : Tables) : Type 0 where
   pub events : All IsName tables.events
   pub resources : All IsName tables.resources
@@ -21,6 +22,7 @@ pub record HasNames (tables : Tables) : Type 0 where
   pub tasks : All (λ row. IsName row.name) tables.tasks
   pub alarms : All (λ row. IsName row.name) tables.alarms
 
+-- the text says the tables
 pub record Says (text : List ℕ) (tables : Tables) : Type 0 where
   pub configured : IsWellConfigured tables
   pub names : HasNames tables
