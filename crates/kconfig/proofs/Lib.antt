@@ -1,4 +1,5 @@
 pub mod Among
+pub mod Ceilings
 pub mod Filling
 pub mod Inversion
 pub mod Keeping

@@ -23,11 +23,8 @@ use Rattle.kconfig.specs.Limits.{IsTaskSmall, IsStartSmall}
 use Rattle.kconfig.specs.Sound.{IsSound, IsWaitOf, IsStartOf, rule_of, times_of}
 use Rattle.kconfig.specs.Sound.{IsActionOf as IsLineActionOf, IsAlarmOf as IsLineAlarmOf}
 use Rattle.kconfig.specs.Tables.{name_of, names_of, counter_row, places_where, is_extended, task_row, task_rows, start_of, alarm_row, alarm_rows, tables_of}
+use Rattle.kconfig.proofs.Inversion.{both_true}
 use Rattle.kconfig.proofs.Rows.{at_within, all_at, one_element, rows_of_map, rows_mapped, rows_numbered, all_rows, pairs_of_rows, range_rises, range_within, in_range, contains_filtered, found_is}
-
-both_are : (a b : Bool) → a && b ≡ true → (a ≡ true) × (b ≡ true)
-both_are true b e = (refl, e)
-both_are false b e = absurd (true≢false (sym e))
 
 counted : {X A : Type 0} (row : ℕ × X → A) (xs : List X) → length (map row (enumerate_from 0 xs)) ≡ length xs
 counted row xs = (rows_numbered row xs).len
@@ -52,7 +49,7 @@ event_of : (c : Config) (task event : ℕ) → IsSound c → wait_stands c.waits
 event_of c task event s h =
     let test : WaitLine → Bool = λ x. eqb x.task task && eqb x.event event in
     let found = Any-from_list_any test c.waits h in
-    let both = both_are (eqb found.1.task task) (eqb found.1.event event) found.4 in
+    let both = both_true (eqb found.1.task task) (eqb found.1.event event) found.4 in
     let is_wait : IsWaitOf c.tasks c.events found.1 = subst (IsWaitOf c.tasks c.events) found.3 (s.each_wait found.0 found.1 found.2) in
     let same : found.1.event ≡ event = eqb-true _ _ both.1 in
     let within : event < length c.events = rw (← same) is_wait.event in (

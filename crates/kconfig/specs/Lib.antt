@@ -10,5 +10,6 @@ pub mod Kept
 pub mod Reading
 pub mod Sound
 pub mod Tables
+pub mod Ceilings
 pub mod Masks
 pub mod Worked

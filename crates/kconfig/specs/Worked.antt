@@ -1,6 +1,7 @@
 -- A small configuration, and its tables.
 use Rattle.std.specs.Prelude.{◌≡◌, true, false, [], ◌∷◌, codes, Some, None}
 use Rattle.osek_core.specs.declared.tables.Action.TheVariants.{Activate, Set}
+use Rattle.osek_core.specs.Kernel.Rules.{ceiling}
 use Rattle.kconfig.specs.declared.config.Config.{Config}
 use Rattle.kconfig.specs.declared.config.TaskLine.{TaskLine}
 use Rattle.kconfig.specs.Config.{first_config}
@@ -43,3 +44,7 @@ OtherRowsOfTwo =
     ((tables_of two_tasks).events ≡ name_of (codes "go") ∷ name_of (codes "halt") ∷ [])
     × (((tables_of two_tasks).resources ≡ name_of (codes "bus") ∷ name_of (codes "led") ∷ [])
     × ((tables_of two_tasks).counters ≡ record { name = name_of (codes "ms"); rule = record { max = 1000; base = 2; min = 5 } } ∷ []))
+
+-- `bus` has the priority of `low`, and `led` that of `high`
+abbrev pub CeilingsOfTwo : Type 0
+CeilingsOfTwo = (ceiling (tables_of two_tasks).tasks 0 ≡ 1) × (ceiling (tables_of two_tasks).tasks 1 ≡ 2)

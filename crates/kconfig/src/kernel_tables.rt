@@ -1,9 +1,11 @@
 //! The kernel's tables of a configuration.
 
-ghost use Rattle.std.specs.Prelude.{◌≡◌, All, IfOk, map};
+ghost use Rattle.std.specs.Prelude.{◌≡◌, ℕ, All, IfOk, map};
 ghost use Rattle.osek_core.specs.Tables.WellConfigured.{IsWellConfigured};
+ghost use Rattle.osek_core.specs.Kernel.Rules.{ceiling};
 ghost use Rattle.kconfig.specs.Limits.{IsCounterSmall, IsStartSmall};
 ghost use Rattle.kconfig.specs.Sound.{IsSound, rule_of, times_of};
+ghost use Rattle.kconfig.specs.Ceilings.{IsCeiling};
 ghost use Rattle.kconfig.specs.Tables.{name_of, names_of, counter_row, start_of, alarm_row, alarm_rows, tables_of};
 
 use crate::config::{AlarmLine, Config, CounterLine, NameLine, StartLine};
@@ -122,6 +124,7 @@ pub fn tables(alloc: Global, config: &Config) -> Result<Tables, NoMemory>
     requires { IsSound config.now }
     ensures same { IfOk result (λ tables. tables ≡ tables_of config.now) }
     ensures well { IfOk result IsWellConfigured }
+    ensures ceilings { IfOk result (λ tables. (resource : ℕ) → IsCeiling config.now resource (ceiling tables.tasks resource)) }
 {
     Ok(Tables {
         events: names_of(alloc, config.events.as_slice())?,
