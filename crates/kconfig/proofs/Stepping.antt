@@ -111,13 +111,3 @@ pub line_step : (spoken : ℕ × List ℕ → List (ℕ × List ℕ)) (n : ℕ) 
     → behind ≡ before ++ spoken (n, line) → before ++ flat_map spoken (enumerate_from n all) ≡ total → behind ++ flat_map spoken (enumerate_from (n + 1) lines) ≡ total
 line_step spoken n line all lines before behind total cut more so_far =
     rw more (append_assoc before (spoken (n, line)) (flat_map spoken (enumerate_from (n + 1) lines)) ∙ ((let g : List (List ℕ) → List (ℕ × List ℕ) = λ ys. before ++ flat_map spoken (enumerate_from n ys) in ap g (sym cut)) ∙ so_far))
-
--- what is seen of the elements from one on
-pub seen_from : {A B : Type 0} (f : A → B) (xs : List A) (i : ℕ) (d : A) → i < length xs → map f (drop i xs) ≡ f (get_or xs i d) ∷ map f (drop (i + 1) xs)
-seen_from f xs i d within =
-    let e : suc i ≡ i + 1 = omega arith in
-    let one : drop i xs ≡ get_or xs i d ∷ drop (i + 1) xs = rw (← e) (drop-cons xs i d within) in
-    ap (map f) one
-
-pub none_left : {A B : Type 0} (f : A → B) (xs : List A) (i : ℕ) → length xs ≤ i → map f (drop i xs) ≡ []
-none_left f xs i past = let none : drop i xs ≡ [] = drop_all i xs past in ap (map f) none

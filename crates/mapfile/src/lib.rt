@@ -1,7 +1,6 @@
 //! Prints the map that ties the C to the bytecode.
 #![tactic(auto)]
 
-mod fail_kind;
 #[cfg(test)]
 mod tests;
 
@@ -9,9 +8,9 @@ ghost use Rattle.std.specs.Prelude.{◌≡◌, ◌++◌, codes, decimal, flat_ma
 ghost use Rattle.mapfile.specs.MapText.{fail_line, function_lines, function_text, map_text, method_line, number_word, order_text, region_line, region_text};
 ghost use Rattle.kes_text.specs.Numbered.{numbered};
 
-use crate::fail_kind::fail_kind_name;
 use csubset::{FailRow, FunctionKind, FunctionRow, Map, RegionRow};
 use kes_text::{NoMemory, append_decimal};
+use script::fail_kind_name;
 use sqlite_items::Items;
 use std::alloc::Global;
 

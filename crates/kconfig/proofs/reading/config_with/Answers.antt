@@ -3,8 +3,9 @@ use Rattle.std.proofs.lemmas.Result.{err_from_is_err_and}
 use Rattle.kes_text.specs.declared.refusal.Stop.{Stop}
 use Rattle.kconfig.specs.declared.config.Config.{Config}
 use Rattle.text_words.specs.declared.line.TextLine.{TextLine}
+use Rattle.text_words.proofs.SeenLemmas.{seen_from, none_left}
 use Rattle.kconfig.specs.Reading.{config_with}
-use Rattle.kconfig.proofs.Stepping.{goes_on, ends, same_waits, done, seen_from, none_left}
+use Rattle.kconfig.proofs.Stepping.{goes_on, ends, same_waits, done}
 use Rattle.kconfig.proofs.reading.config_with.Goals as goal
 
 abbrev seen : TextLine → ℕ × List ℕ

@@ -1,0 +1,4 @@
+pub mod InTurnLemmas
+pub mod Joining
+pub mod Masks
+pub mod Moves

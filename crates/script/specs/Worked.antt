@@ -1,0 +1,27 @@
+-- Worked examples of scripts.
+use Rattle.std.specs.Prelude.{◌≡◌, ℕ, [], ◌∷◌, codes, Ok}
+use Rattle.kes_text.specs.declared.refusal.Kind.TheVariants as kind
+use Rattle.osek_core.specs.declared.moves.Move.TheVariants.{Run, Tick}
+use Rattle.text_words.specs.Said.{refused}
+use Rattle.script.specs.declared.line.Line.{Line}
+use Rattle.script.specs.declared.names.Names.{Names}
+use Rattle.script.specs.Reading.{script_of}
+
+-- one task, one counter and four device bytes
+abbrev pub small : Names
+small = record { tasks = codes "main" ∷ []; resources = []; events = []; counters = codes "ms" ∷ []; alarms = []; methods = []; devices = 4 }
+
+abbrev pub runs : ℕ → Line
+runs n = record { times = n; step = Run }
+
+abbrev pub ticks : ℕ → Line
+ticks n = record { times = n; step = Tick 0 }
+
+abbrev pub ReadsItsLines : Type 0
+ReadsItsLines = script_of small 9 (codes "run 2\n# a comment\ntick ms\n") ≡ Ok (runs 2 ∷ ticks 1 ∷ [])
+
+abbrev pub CountsMoves : Type 0
+CountsMoves = script_of small 2 (codes "run 2\ntick ms") ≡ refused kind.TooMany 2
+
+abbrev pub EndsWithinTheDevices : Type 0
+EndsWithinTheDevices = script_of small 9 (codes "poke 3 0aFf") ≡ refused kind.Range 1
