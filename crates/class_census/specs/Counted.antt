@@ -1,11 +1,11 @@
 -- What is counted of a class file (JVMS SE 8, 4.1): its fields, its methods, and the instructions of their codes.
-use Rattle.std.specs.Prelude.{ℕ, ◌+◌, ◌-◌, ◌^◌, min, List, [], ◌∷◌, ◌++◌, length, Option, Some, None, Result, Ok, Err, codes, decimal}
+use Rattle.std.specs.Prelude.{◌≡◌, ◌⊎◌, ℕ, ◌+◌, ◌-◌, ◌^◌, min, List, [], ◌∷◌, ◌++◌, length, Option, Some, None, Result, Ok, Err, codes, decimal}
 use Rattle.classfile.specs.ClassFile.{ClassInfo, CodeInfo, MethodInfo}
 use Rattle.classfile.specs.Reading.{class_file}
 use Rattle.classfile.specs.Scan.{◌>>=◌}
 use Rattle.jcode.specs.Decoded.{decoded}
 use Rattle.jcode.specs.PoolOf.{pool_of}
-use Rattle.kes_text.specs.Complaints.{refusal_text}
+use Rattle.kes_text.specs.Complaints.{refusal_text, cannot_read_text}
 use Rattle.kes_text.specs.declared.refusal.Stop.{Stop}
 use Rattle.kes_text.specs.declared.refusal.Stop.TheVariants.{Refused, NoMemory}
 use Rattle.class_census.specs.declared.census.Census.{Census}
@@ -43,3 +43,7 @@ line_text name (Ok census) =
     name ++ codes ": " ++ decimal census.fields ++ codes " fields, " ++ decimal census.methods ++ codes " methods, " ++ decimal census.instructions ++ codes " instructions\n"
 line_text name (Err (Refused refusal)) = refusal_text refusal name
 line_text name (Err NoMemory) = []
+
+-- what is told of a file of this name that holds these bytes: its line, or that it can't be read
+abbrev pub IsTold : List ℕ → List ℕ → List ℕ → Type 0
+IsTold name bytes line = (line ≡ line_text name (counted bytes)) ⊎ (line ≡ cannot_read_text name)

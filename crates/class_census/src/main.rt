@@ -10,10 +10,9 @@
 
 mod census;
 
-ghost use Rattle.std.specs.Prelude.{◌≡◌, ◌⊎◌, IfOk, IfSome};
+ghost use Rattle.std.specs.Prelude.{◌≡◌, ◌++◌, ℕ, List, IfOk, OnOk, IfSome};
 ghost use Rattle.std.specs.FinMap.{get};
-ghost use Rattle.class_census.specs.Counted.{counted, line_text};
-ghost use Rattle.kes_text.specs.Complaints.{cannot_read_text};
+ghost use Rattle.class_census.specs.Counted.{IsTold};
 
 use crate::census::line_of;
 use kes_outside::{Files, HostFiles, HostSink, ReadStop, Sink, SinkFault};
@@ -53,7 +52,7 @@ const NAMES: [&str; 25] = [
 /// The line of a file, also where it can't be read.
 fn told<F: Files>(alloc: Global, name: &str, files: &mut F) -> Result<Vec<u8>, NoMemory>
     ensures { IfOk result (λ line. IfSome (F.contents files.old) (λ held. IfSome (get held name.now)
-        (λ bytes. (line.items ≡ line_text name.now (counted bytes)) ⊎ (line.items ≡ cannot_read_text name.now)))) }
+        (λ bytes. IsTold name.now bytes line.items))) }
 {
     match files.read(alloc, name) {
         Ok(bytes) => line_of(alloc, name, bytes.as_slice()),
@@ -62,12 +61,16 @@ fn told<F: Files>(alloc: Global, name: &str, files: &mut F) -> Result<Vec<u8>, N
     }
 }
 
+/// Puts the line of a file on the output.
 fn tell<F: Files, O: Sink>(
     alloc: Global,
     name: &str,
     files: &mut F,
     out: &mut O,
-) -> Result<(), SinkFault> {
+) -> Result<(), SinkFault>
+    ensures { OnOk result (IfSome (O.taken out.old) (λ before. IfSome (F.contents files.old) (λ held. IfSome (get held name.now)
+        (λ bytes. (line : List ℕ) × IsTold name.now bytes line × (O.taken out.new ≡ Some (before ++ line)))))) }
+{
     match told(alloc, name, files) {
         Ok(line) => out.put(alloc, line.as_slice()),
         Err(AllocError) => Err(SinkFault::NoMemory),
