@@ -11,8 +11,8 @@ use crate::words::is_name;
 use kes_text::{Kind, Stop};
 use osek_core::Action;
 use sqlite_items::Items;
-use text_words::{Number, are_both_numbers, check, is_word, number_of, refusal};
 use std::alloc::Global;
+use text_words::{Number, are_both_numbers, check, is_word, number_of, refusal};
 
 const MOST_ALARMS: usize = 64;
 

@@ -12,8 +12,8 @@ use crate::reader::{Reader, named};
 use crate::words::{is_field, is_name, is_shown_name};
 use kes_text::{Kind, Stop};
 use sqlite_items::Items;
-use text_words::{Number, are_both_numbers, check, is_either, is_word, number_of, refusal};
 use std::alloc::Global;
+use text_words::{Number, are_both_numbers, check, is_either, is_word, number_of, refusal};
 
 const MOST_DOMAINS: usize = 16;
 

@@ -12,8 +12,8 @@ use crate::word_set::WordSet;
 use crate::words::is_method;
 use kes_text::{Kind, NoMemory, Stop};
 use sqlite_items::Items;
-use text_words::{Number, check, is_word, number_of, refusal};
 use std::alloc::Global;
+use text_words::{Number, check, is_word, number_of, refusal};
 
 const MOST_PORTALS: usize = 256;
 

@@ -16,8 +16,8 @@ use crate::methods::{device_line, native_line, portal_line};
 use crate::reader::{Reader, WaitWords};
 use crate::tasks::{task_line, use_line, wait_line};
 use kes_text::{Kind, NoMemory, Stop};
-use text_words::{TextLine, is_word, refusal, text_lines, words};
 use std::alloc::Global;
+use text_words::{TextLine, is_word, refusal, text_lines, words};
 
 const MOST_EVENTS: usize = 31;
 
@@ -154,7 +154,8 @@ fn config_with<'a>(
 ///
 /// A refusal is at the first line that shows Syntax, Range, Room, Twice or Unknown, and of its faults the
 /// first in this order; it has 0 for its file, which the caller sets. A text without a first line is Syntax
-/// at the number of its lines plus 1. Time and memory are in proportion to the text's length.
+/// at the number of its lines plus 1. Memory is in proportion to the text's length, and so is time where its
+/// METHODs and cells weren't chosen to collide in a hash table.
 pub fn read_config(alloc: Global, text: &[u8]) -> Result<Config, Stop>
     ensures says { OrNoMemory result (config_of text.now) }
     ensures small { IfOk result IsSmall }

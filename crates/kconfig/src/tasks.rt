@@ -10,8 +10,8 @@ use crate::reader::Reader;
 use crate::words::{is_entry, is_name};
 use kes_text::{Kind, Stop};
 use sqlite_items::Items;
-use text_words::{Number, check, is_either, is_word, number_of, refusal};
 use std::alloc::Global;
+use text_words::{Number, check, is_either, is_word, number_of, refusal};
 
 const MOST_TASKS: usize = 64;
 
