@@ -51,7 +51,8 @@ abbrev pub ArePlaced : Bool → List Entry → Type 0
 ArePlaced wide [] = ⊤
 ArePlaced wide (one ∷ others) = (is_behind one ≡ wide) × ArePlaced (is_wide one) others
 
--- constant_pool_count, which is one more than the places are, or 0 where there are none (4.1), and the entries
+-- constant_pool_count, which is one more than the places are, or 0 where there are none (4.1), and these entries, whose
+-- indices name entries of a pool
 abbrev pub pool_piece : ℕ → List Entry → List Entry → Piece
 pool_piece version pool entries =
     λ at bytes. (count : ℕ) × (count - 1 ≡ length entries) × ArePlaced false entries × (u2 count ▸ each (entry_piece version pool) entries) at bytes
