@@ -1,3 +1,4 @@
+pub mod InOrder
 pub mod Repeating
 pub mod Places
 pub mod Numbering

@@ -15,6 +15,11 @@ pub lookup_of_map : {K L X : Type 0} (test : L → Bool) (f : K → L) (es : Lis
 lookup_of_map test f [] = refl
 lookup_of_map {X = X} test f (e ∷ es) = ap (λ (r : Option X). cond (test (f e.0)) (Some e.1) r) (lookup_of_map test f es)
 
+-- a look-up by another test that says the same
+pub lookup_same : {K X : Type 0} (f g : K → Bool) → ((k : K) → f k ≡ g k) → (es : List (K × X)) → lookup f es ≡ lookup g es
+lookup_same f g same [] = refl
+lookup_same {X = X} f g same (e ∷ es) = rw (same e.0) (ap (λ (r : Option X). cond (g e.0) (Some e.1) r) (lookup_same f g same es))
+
 -- the text of the entry at a place, from 0
 abbrev pub text_in : List Entry → ℕ → Option (List ℕ)
 text_in pool j = slice_get pool j >>= utf8_text

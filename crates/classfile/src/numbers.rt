@@ -8,13 +8,13 @@ ghost use Rattle.classfile.specs.Numbers.{number_in, HasNumber, IsNumbered, IsNu
 use crate::pool::{Entry, Pool};
 use kes_text::NoMemory;
 use std::alloc::Global;
-use std::collections::HashMap;
+use std::collections::BTreeMap;
 use std::marker::Model;
 
 /// Texts that have a number.
 #[derive(Drop)]
 struct Known<'a> {
-    numbers: HashMap<&'a [u8], usize>,
+    numbers: BTreeMap<&'a [u8], usize>,
 }
 
 impl<'a> Model for Known<'a> {
@@ -31,11 +31,11 @@ impl<'a> Known<'a> {
         ensures { result ≡ [] }
     {
         Known {
-            numbers: HashMap::new(alloc),
+            numbers: BTreeMap::new(alloc),
         }
     }
 
-    fn get(&self, text: &[u8]) -> Option<usize>
+    fn get(&self, text: &'a [u8]) -> Option<usize>
         ensures { result ≡ number_in self.now text.now }
     {
         self.numbers.get(&text).copied()

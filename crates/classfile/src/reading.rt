@@ -168,8 +168,7 @@ fn class_of(alloc: Global, bytes: &[u8]) -> Result<Class<'_>, Stop>
 /// index field or member in the file's order that shows PoolIndex, BadDescriptor or TwoMembers. A
 /// refusal has 0 for its file, which the caller sets. All attributes but Code, the first ConstantValue of
 /// a field and the first StackMapTable of a Code are passed over by their length. Names and code are
-/// slices of the file. Memory is in proportion to the file's length, and so is time where the file's texts
-/// weren't chosen to collide in a hash table.
+/// slices of the file. Memory is in proportion to the file's length, and time to that and its logarithm.
 pub fn read_class(alloc: Global, bytes: &[u8]) -> Result<Class<'_>, Stop>
     // What is answered is what the bytes say, or their first fault.
     ensures exact { OrNoMemory result (class_file bytes.now) }

@@ -7,14 +7,14 @@ use crate::pool::Pool;
 use crate::uses::Use;
 use kes_text::NoMemory;
 use std::alloc::Global;
-use std::collections::HashSet;
+use std::collections::BTreeSet;
 use std::marker::Model;
 
 /// Members that have been passed over, by whether they are methods and by the numbers of their name and
 /// their descriptor. Contracts see which of these are among them.
 #[derive(Drop)]
 pub struct Seen {
-    members: HashSet<(bool, usize, usize)>,
+    members: BTreeSet<(bool, usize, usize)>,
 }
 
 impl Model for Seen {
@@ -31,7 +31,7 @@ impl Seen {
         ensures { result ≡ [] }
     {
         Seen {
-            members: HashSet::new(alloc),
+            members: BTreeSet::new(alloc),
         }
     }
 
