@@ -1,6 +1,11 @@
+ghost use Rattle.std.specs.Prelude.{◌≡◌};
+ghost use Rattle.osek_model.specs.Call.{IsCallOf};
+
 use super::*;
 use kes_text::{Kind, NoMemory, Stop};
 use oil_out::print_oil;
+use osek_core::Call;
+use osek_model::Kernel;
 use std::alloc::Global;
 use std::test::Fail;
 
@@ -255,4 +260,35 @@ fn the_worked_examples_hold(_rt: HostRuntime) {
     objects_are_read();
     pieces_are_read();
     first_faults();
+}
+
+/// What a service answers where a job runs, and whether the job has ended.
+fn serve(kernel: &mut Kernel, call: Call) -> Option<(i32, bool)>
+    requires objects { IsCallOf kernel.old.plan call }
+    ensures { kernel.new.plan ≡ kernel.old.plan }
+{
+    match kernel.running() {
+        None => None,
+        Some(_) => {
+            let answer = kernel.service(call);
+            Some((answer.value, answer.ended))
+        }
+    }
+}
+
+#[test]
+fn kernel_of_tables_that_are_read_runs(rt: HostRuntime) -> Result<(), Fail> {
+    let tables = read_oil(rt.alloc(), TWO_OF_EACH.as_bytes())?;
+    let mut kernel = Kernel::new(rt.alloc(), &tables)?;
+    assert_eq!(rt; kernel.running(), None);
+    kernel.start();
+    assert_eq!(rt; kernel.running(), Some(0));
+    assert_eq!(rt; serve(&mut kernel, Call::Schedule), Some((0, false)));
+    assert_eq!(rt;
+        serve(&mut kernel, Call::ClearEvent { mask: 1 }),
+        Some((1, false))
+    );
+    assert_eq!(rt; serve(&mut kernel, Call::TerminateTask), Some((0, true)));
+    assert_eq!(rt; kernel.running(), None);
+    Ok(())
 }
