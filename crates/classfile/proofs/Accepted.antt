@@ -40,7 +40,7 @@ keeps_pool version pool s y e =
     behind P (methods_at pool fields.1) (λ methods.
     behind P (attributes_at methods.1) (λ attributes.
     behind P (ended attributes) (λ end.
-    with_pool pool (record { version = version; flags = flags.0; name = class_named pool this.0; super_name = class_named pool super.0; interfaces = interfaces.0; fields = fields.0; methods = methods.0; pool = pool }) end refl)))))))) in
+    with_pool pool (record { version = version; flags = flags.0; name = class_named pool this.0; super_name = class_named pool super.0; super_at = this.1.place; interfaces = interfaces.0; fields = fields.0; methods = methods.0; pool = pool }) end refl)))))))) in
     all.always y e
 
 pub no_fault : (first second : Option Refusal) (made class : ClassInfo) → Ok class ≡ unless (or_else first second) made → (first ≡ None) × (class ≡ made)

@@ -37,12 +37,14 @@ pub record MemberInfo : Type 0 where
   pub name : List ℕ
   pub descriptor : List ℕ
 
--- a class file (4.1); a class without a superclass has no bytes for its name. The first entry of the pool is number 1.
+-- a class file (4.1); a class without a superclass has no bytes for its name. Its super_class stands at super_at, and
+-- so the index of interface i, counted from 0, at super_at + 4 + 2 * i. The first entry of the pool is number 1.
 pub record ClassInfo : Type 0 where
   pub version : ℕ
   pub flags : ℕ
   pub name : List ℕ
   pub super_name : List ℕ
+  pub super_at : ℕ
   pub interfaces : List (List ℕ)
   pub fields : List FieldInfo
   pub methods : List MethodInfo

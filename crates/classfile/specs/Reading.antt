@@ -67,7 +67,7 @@ body_at version pool s = do
   methods ← methods_at pool fields.1
   attributes ← attributes_at methods.1
   behind ← ended attributes
-  Ok (record { version = version; flags = flags.0; name = class_named pool this.0; super_name = class_named pool super.0; interfaces = interfaces.0; fields = fields.0; methods = methods.0; pool = pool }, behind)
+  Ok (record { version = version; flags = flags.0; name = class_named pool this.0; super_name = class_named pool super.0; super_at = this.1.place; interfaces = interfaces.0; fields = fields.0; methods = methods.0; pool = pool }, behind)
 
 -- the first pass, the structure: the class, and the scans behind its constant pool and at its end
 unfoldable pub structure_at : Scan → Result (ClassInfo × Scan × Scan) Stop

@@ -20,9 +20,9 @@ use Rattle.classfile.specs.Spelled.Members.{IsField, IsMethod, is_same_field, is
 abbrev pub version_piece : ℕ → Piece
 version_piece version = u4 0xCAFEBABE ▸ any 2 ▸ u2 version
 
--- super_class: an index, or 0 in java/lang/Object
-abbrev pub super_piece : List Entry → List ℕ → ℕ → Piece
-super_piece pool name i = λ at bytes. u2 i at bytes × ((i ≡ 0) × (name ≡ codes "java/lang/Object") ⊎ index pool wanted.Class i at bytes)
+-- super_class, at this place: an index, or 0 in java/lang/Object
+abbrev pub super_piece : List Entry → List ℕ → ℕ → ℕ → Piece
+super_piece pool name place i = λ at bytes. (place ≡ at) × u2 i at bytes × ((i ≡ 0) × (name ≡ codes "java/lang/Object") ⊎ index pool wanted.Class i at bytes)
 
 abbrev pub interface_piece : List Entry → List ℕ → Piece
 interface_piece pool name = λ at bytes. (i : ℕ) × index pool wanted.Class i at bytes × (name ≡ class_named pool i)
@@ -30,7 +30,7 @@ interface_piece pool name = λ at bytes. (i : ℕ) × index pool wanted.Class i 
 -- access_flags and what stands behind them
 abbrev pub body_piece : ClassInfo → ℕ → ℕ → List Attribute → Piece
 body_piece class this super attributes =
-    u2 class.flags ▸ index class.pool wanted.Class this ▸ super_piece class.pool class.name super ▸ table (interface_piece class.pool) class.interfaces
+    u2 class.flags ▸ index class.pool wanted.Class this ▸ super_piece class.pool class.name class.super_at super ▸ table (interface_piece class.pool) class.interfaces
     ▸ table (IsField class.pool) class.fields ▸ table (IsMethod class.pool) class.methods ▸ table (attribute class.pool) attributes
 
 -- the bytes are this class file

@@ -79,6 +79,7 @@ pub struct Class<'a> {
     pub(crate) flags: Access,
     pub(crate) name: &'a [u8],
     pub(crate) super_name: &'a [u8],
+    pub(crate) super_at: u64,
     pub(crate) interfaces: Names<'a>,
     pub(crate) fields: Rows<Field<'a>>,
     pub(crate) methods: Rows<Method<'a>>,
@@ -90,7 +91,7 @@ impl<'a> Model for Class<'a> {
 
     ghost Value = { ClassInfo };
 
-    ghost view = { λ c. record { version = c.version; flags = c.flags.bits; name = c.name.now; super_name = c.super_name.now; interfaces = c.interfaces; fields = c.fields; methods = c.methods; pool = c.pool } };
+    ghost view = { λ c. record { version = c.version; flags = c.flags.bits; name = c.name.now; super_name = c.super_name.now; super_at = c.super_at; interfaces = c.interfaces; fields = c.fields; methods = c.methods; pool = c.pool } };
 }
 
 impl<'a> Class<'a> {
@@ -106,6 +107,13 @@ impl<'a> Class<'a> {
         ensures { result.now ≡ self.now.super_name }
     {
         self.super_name
+    }
+
+    /// The offset of super_class. The index of interface `i`, counted from 0, stands at `super_at() + 4 + 2 * i`.
+    pub fn super_at(&self) -> u64
+        ensures { result ≡ self.now.super_at }
+    {
+        self.super_at
     }
 
     pub fn flags(&self) -> Access

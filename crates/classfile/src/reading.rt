@@ -115,6 +115,7 @@ fn body_at<'a>(
     let (bits, scan) = scan.u16()?;
     let (this, scan) = scan.index(Wanted::Class)?;
     let name = class_named(&pool, this);
+    let at = scan.at();
     let (super_class, scan) = super_at(name, scan)?;
     let (interfaces, scan) = interfaces_at(alloc, &pool, scan)?;
     let (fields, scan) = fields_at(alloc, &pool, scan)?;
@@ -127,6 +128,7 @@ fn body_at<'a>(
         flags: Access { bits },
         name,
         super_name,
+        super_at: at,
         interfaces,
         fields,
         methods,

@@ -32,6 +32,7 @@ fn a_class_of_javac_is_read(rt: HostRuntime) -> Result<(), Fail> {
     let class = read_class(rt.alloc(), &MOTOR)?;
     assert_eq!(rt; class.name(), b"Motor".as_slice());
     assert_eq!(rt; class.super_name(), b"java/lang/Object".as_slice());
+    assert_eq!(rt; class.super_at(), 369);
     assert_eq!(rt; class.version(), 52);
     assert_eq!(rt; class.flags().bits, 0x0420);
     assert!(rt; class.flags().contains(Access::ABSTRACT));

@@ -118,11 +118,14 @@ module _ (pool : List Entry) where
 
   -- ---- super_class and the interfaces
 
-  super_spells : (name : List ℕ) → Spells pool pair (super_at name) (super_piece pool name) none
+  abbrev pub Super : List ℕ → ℕ → Piece
+  Super name i = λ at bytes. super_piece pool name at i at bytes
+
+  super_spells : (name : List ℕ) → Spells pool pair (super_at name) (Super name) none
   super_spells name =
       same pool
-      (λ i at bytes h. (h.0, elim h.1 [ inl e ↦ inl (free_is i e) | inr x ↦ inr x ]))
-      (λ i at bytes h. (h.0, elim h.1 [ inl e ↦ inl (is_free i e.0 e.1) | inr x ↦ inr x ]))
+      (λ i at bytes h. (refl, h.0, elim h.1 [ inl e ↦ inl (free_is i e) | inr x ↦ inr x ]))
+      (λ i at bytes h. (h.1, elim h.2 [ inl e ↦ inl (is_free i e.0 e.1) | inr x ↦ inr x ]))
       (here pool (λ p s. number_at 2 s >>= λ index. if index.0 == 0 && bytes_eq name (codes "java/lang/Object") then Ok index else Ok (index.0, noted (uses.Index p index.0 wanted.Class) index.1))
       (λ p i at bytes. number 2 i at bytes × ((i == 0 && bytes_eq name (codes "java/lang/Object")) ≡ true ⊎ index pool wanted.Class i at bytes)) (λ p.
       unless_spells pool (λ i. i == 0 && bytes_eq name (codes "java/lang/Object")) p wanted.Class pair _ (λ i s. refl)))
@@ -150,38 +153,43 @@ module _ (pool : List Entry) where
   -- ---- what stands behind the constant pool, up to the end
 
   module _ (version : ℕ) where
-    abbrev pub class_of : ℕ → ℕ → ℕ → List (List ℕ) → List FieldInfo → List MethodInfo → ClassInfo
-    class_of flags this super interfaces fields methods =
-        record { version = version; flags = flags; name = class_named pool this; super_name = class_named pool super; interfaces = interfaces; fields = fields; methods = methods; pool = pool }
+    abbrev pub class_of : ℕ → ℕ → ℕ → ℕ → List (List ℕ) → List FieldInfo → List MethodInfo → ClassInfo
+    class_of flags this place super interfaces fields methods =
+        record { version = version; flags = flags; name = class_named pool this; super_name = class_named pool super; super_at = place; interfaces = interfaces; fields = fields; methods = methods; pool = pool }
+
+    -- super_class, at this place, and what stands behind it
+    abbrev super_items : ℕ → ℕ → ℕ → Scan → Read ClassInfo
+    super_items flags this place s = do
+      super ← super_at (class_named pool this) s
+      interfaces ← interfaces_at pool super.1
+      fields ← fields_at pool interfaces.1
+      methods ← methods_at pool fields.1
+      attributes ← attributes_at methods.1
+      Ok (class_of flags this place super.0 interfaces.0 fields.0 methods.0, attributes)
 
     abbrev pub body_items : Scan → Read ClassInfo
     body_items s = do
       flags ← number_at 2 s
       this ← index_at wanted.Class flags.1
-      super ← super_at (class_named pool this.0) this.1
-      interfaces ← interfaces_at pool super.1
-      fields ← fields_at pool interfaces.1
-      methods ← methods_at pool fields.1
-      attributes ← attributes_at methods.1
-      Ok (class_of flags.0 this.0 super.0 interfaces.0 fields.0 methods.0, attributes)
+      super_items flags.0 this.0 this.1.place this.1
 
-    abbrev pub BehindMethods : ℕ → ℕ → ℕ → List (List ℕ) → List FieldInfo → List MethodInfo → ClassInfo → Piece
-    BehindMethods flags this super interfaces fields methods class = λ at bytes. (attributes : List Attribute) × (class ≡ class_of flags this super interfaces fields methods) × table (attribute pool) attributes at bytes
+    abbrev pub BehindMethods : ℕ → ℕ → ℕ → ℕ → List (List ℕ) → List FieldInfo → List MethodInfo → ClassInfo → Piece
+    BehindMethods flags this place super interfaces fields methods class = λ at bytes. (attributes : List Attribute) × (class ≡ class_of flags this place super interfaces fields methods) × table (attribute pool) attributes at bytes
 
-    abbrev pub BehindFields : ℕ → ℕ → ℕ → List (List ℕ) → List FieldInfo → ClassInfo → Piece
-    BehindFields flags this super interfaces fields class = λ at bytes. (methods : List MethodInfo) × Then (table (IsMethod pool) methods) (BehindMethods flags this super interfaces fields methods class) at bytes
+    abbrev pub BehindFields : ℕ → ℕ → ℕ → ℕ → List (List ℕ) → List FieldInfo → ClassInfo → Piece
+    BehindFields flags this place super interfaces fields class = λ at bytes. (methods : List MethodInfo) × Then (table (IsMethod pool) methods) (BehindMethods flags this place super interfaces fields methods class) at bytes
 
-    abbrev pub BehindInterfaces : ℕ → ℕ → ℕ → List (List ℕ) → ClassInfo → Piece
-    BehindInterfaces flags this super interfaces class = λ at bytes. (fields : List FieldInfo) × Then (table (IsField pool) fields) (BehindFields flags this super interfaces fields class) at bytes
+    abbrev pub BehindInterfaces : ℕ → ℕ → ℕ → ℕ → List (List ℕ) → ClassInfo → Piece
+    BehindInterfaces flags this place super interfaces class = λ at bytes. (fields : List FieldInfo) × Then (table (IsField pool) fields) (BehindFields flags this place super interfaces fields class) at bytes
 
-    abbrev pub BehindSuper : ℕ → ℕ → ℕ → ClassInfo → Piece
-    BehindSuper flags this super class = λ at bytes. (interfaces : List (List ℕ)) × Then (table (interface_piece pool) interfaces) (BehindInterfaces flags this super interfaces class) at bytes
+    abbrev pub BehindSuper : ℕ → ℕ → ℕ → ℕ → ClassInfo → Piece
+    BehindSuper flags this place super class = λ at bytes. (interfaces : List (List ℕ)) × Then (table (interface_piece pool) interfaces) (BehindInterfaces flags this place super interfaces class) at bytes
 
-    abbrev pub BehindThis : ℕ → ℕ → ClassInfo → Piece
-    BehindThis flags this class = λ at bytes. (super : ℕ) × Then (super_piece pool (class_named pool this) super) (BehindSuper flags this super class) at bytes
+    abbrev pub BehindThis : ℕ → ℕ → ℕ → ClassInfo → Piece
+    BehindThis flags this place class = λ at bytes. (super : ℕ) × Then (Super (class_named pool this) super) (BehindSuper flags this place super class) at bytes
 
     abbrev pub BehindFlags : ℕ → ClassInfo → Piece
-    BehindFlags flags class = λ at bytes. (this : ℕ) × Then (index pool wanted.Class this) (BehindThis flags this class) at bytes
+    BehindFlags flags class = λ at bytes. (this : ℕ) × Then (index pool wanted.Class this) (λ place. BehindThis flags this place class place) at bytes
 
     abbrev pub Body : ClassInfo → Piece
     Body class = λ at bytes. (flags : ℕ) × Then (number 2 flags) (BehindFlags flags class) at bytes
@@ -192,19 +200,20 @@ module _ (pool : List Entry) where
     pub items_spells : Spells pool pair body_items Body class_keys
     items_spells =
         keyed_in_turn pool {Q = BehindFlags} {L = λ a. class_keys} _ (λ a c at bytes h. refl) (number_spells pool 2) (λ flags.
-        keyed_in_turn pool {Q = BehindThis flags} {L = λ a. class_keys} _ (λ a c at bytes h. refl) (index_spells pool wanted.Class) (λ this.
-        keyed_in_turn pool {Q = BehindSuper flags this} {L = λ a. class_keys} _ (λ a c at bytes h. refl) (super_spells (class_named pool this)) (λ super.
-        keyed_in_turn pool {Q = BehindInterfaces flags this super} {L = λ a. class_keys} _ (λ a c at bytes h. refl) interfaces_spells (λ interfaces.
-        keyed_in_turn pool {Q = BehindFields flags this super interfaces} {K = flat_map field_key} {L = λ fields c. flat_map method_key c.methods} _
+        keyed_in_turn pool {Q = λ this class place. BehindThis flags this place class place} {L = λ a. class_keys} _ (λ a c at bytes h. refl) (index_spells pool wanted.Class) (λ this.
+        here pool (super_items flags this) (BehindThis flags this) (λ place.
+        keyed_in_turn pool {Q = BehindSuper flags this place} {L = λ a. class_keys} _ (λ a c at bytes h. refl) (super_spells (class_named pool this)) (λ super.
+        keyed_in_turn pool {Q = BehindInterfaces flags this place super} {L = λ a. class_keys} _ (λ a c at bytes h. refl) interfaces_spells (λ interfaces.
+        keyed_in_turn pool {Q = BehindFields flags this place super interfaces} {K = flat_map field_key} {L = λ fields c. flat_map method_key c.methods} _
         (λ fields c at bytes h. ap (λ (x : ClassInfo). flat_map field_key x.fields ++ flat_map method_key c.methods) (sym h.1.second.1))
         (many_spells pool (IsField pool) field_key (field_at pool) (field_spells pool)) (λ fields.
-        keyed_in_turn pool {Q = BehindMethods flags this super interfaces fields} {K = flat_map method_key} {L = λ methods. none} _
+        keyed_in_turn pool {Q = BehindMethods flags this place super interfaces fields} {K = flat_map method_key} {L = λ methods. none} _
         (λ methods c at bytes h. append-nil (flat_map method_key methods) ∙ ap (λ (x : ClassInfo). flat_map method_key x.methods) (sym h.1))
         (many_spells pool (IsMethod pool) method_key (method_at pool) (method_spells pool)) (λ methods.
-        ending pool _ pair (BehindMethods flags this super interfaces fields methods) none (λ (attributes : List Attribute). class_of flags this super interfaces fields methods) (λ attributes s. refl)
+        ending pool _ pair (BehindMethods flags this place super interfaces fields methods) none (λ (attributes : List Attribute). class_of flags this place super interfaces fields methods) (λ attributes s. refl)
         (λ attributes at bytes h. ((attributes, refl, h), refl))
         (λ class at bytes h. (h.0, sym h.1, h.2))
-        (attributes_spells pool)))))))
+        (attributes_spells pool))))))))
 
     -- and its end
     late : {A B C : Type 0} (r : Result A Stop) (f : A → Result B Stop) (h : A → Result C Stop) (g : C → Result B Stop) → ((a : A) → f a ≡ (h a >>= g)) → (r >>= f) ≡ ((r >>= h) >>= g)
@@ -223,4 +232,4 @@ module _ (pool : List Entry) where
         late (interfaces_at pool super.1) _ _ at_end (λ interfaces.
         late (fields_at pool interfaces.1) _ _ at_end (λ fields.
         late (methods_at pool fields.1) _ _ at_end (λ methods.
-        late (attributes_at methods.1) _ (λ attributes. Ok (class_of flags.0 this.0 super.0 interfaces.0 fields.0 methods.0, attributes)) at_end (λ attributes. refl)))))))
+        late (attributes_at methods.1) _ (λ attributes. Ok (class_of flags.0 this.0 this.1.place super.0 interfaces.0 fields.0 methods.0, attributes)) at_end (λ attributes. refl)))))))

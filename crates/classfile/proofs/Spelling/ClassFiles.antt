@@ -74,7 +74,8 @@ spelled_by bytes pool version class h =
     let methods = t5.second.0 in
     let t6 = t5.second.1 in
     let attributes = t6.second.0 in
-    let made : ClassInfo = class_of pool version flags this super interfaces fields methods in
+    let place : ℕ = 0 + length h.header_bytes + length h.entry_bytes + length t1.front + length t2.front in
+    let made : ClassInfo = class_of pool version flags this place super interfaces fields methods in
     let is : class ≡ made = t6.second.1 in
     let apart = members_fresh fields methods (ap_keys class made is h.keys) in
     let there : IsSpelled made bytes = record {
@@ -212,11 +213,13 @@ body_of bytes class h =
     let t4 = t3.second in
     let t5 = t4.second in
     let t6 = t5.second in
-    let is : class ≡ class_of class.pool class.version class.flags h.this h.super class.interfaces class.fields class.methods =
-    ap (λ (n : List ℕ). record { version = class.version; flags = class.flags; name = n; super_name = class.super_name; interfaces = class.interfaces; fields = class.fields; methods = class.methods; pool = class.pool }) h.called
-    ∙ ap (λ (n : List ℕ). record { version = class.version; flags = class.flags; name = class_named class.pool h.this; super_name = n; interfaces = class.interfaces; fields = class.fields; methods = class.methods; pool = class.pool }) h.above in
-    let super : super_piece class.pool (class_named class.pool h.this) h.super (0 + length h.items.front + length h.items.second.front + length t1.front + length t2.front) t3.front =
-    subst (λ (n : List ℕ). super_piece class.pool n h.super (0 + length h.items.front + length h.items.second.front + length t1.front + length t2.front) t3.front) h.called t3.first in (
+    let place : ℕ = 0 + length h.items.front + length h.items.second.front + length t1.front + length t2.front in
+    let is : class ≡ class_of class.pool class.version class.flags h.this place h.super class.interfaces class.fields class.methods =
+    ap (λ (n : List ℕ). record { version = class.version; flags = class.flags; name = n; super_name = class.super_name; super_at = class.super_at; interfaces = class.interfaces; fields = class.fields; methods = class.methods; pool = class.pool }) h.called
+    ∙ ap (λ (n : List ℕ). record { version = class.version; flags = class.flags; name = class_named class.pool h.this; super_name = n; super_at = class.super_at; interfaces = class.interfaces; fields = class.fields; methods = class.methods; pool = class.pool }) h.above
+    ∙ ap (λ (q : ℕ). record { version = class.version; flags = class.flags; name = class_named class.pool h.this; super_name = class_named class.pool h.super; super_at = q; interfaces = class.interfaces; fields = class.fields; methods = class.methods; pool = class.pool }) t3.first.0 in
+    let named : super_piece class.pool (class_named class.pool h.this) class.super_at h.super place t3.front = subst (λ (n : List ℕ). super_piece class.pool n class.super_at h.super place t3.front) h.called t3.first in
+    let super : super_piece class.pool (class_named class.pool h.this) place h.super place t3.front = (refl, named.1, named.2) in (
       class.flags,
       record {
         front = t1.front;

@@ -9,13 +9,14 @@ use Rattle.classfile.specs.Worked.Files.{two, utf8, file, body, nothing, attribu
 abbrev pub base : List Entry
 base = entry.Utf8 (codes "A") ∷ entry.Class 1 ∷ entry.Utf8 (codes "B") ∷ entry.Class 3 ∷ []
 
-abbrev pub Says : List ℕ → List FieldInfo → List MethodInfo → List Entry → Type 0
-Says bytes fields methods entries =
-    class_file bytes ≡ Ok (record { version = 52; flags = 0x20; name = codes "A"; super_name = codes "B"; interfaces = []; fields = fields; methods = methods; pool = base ++ entries })
+-- these bytes, whose super_class stands at this place, say these members and further entries
+abbrev pub Says : List ℕ → ℕ → List FieldInfo → List MethodInfo → List Entry → Type 0
+Says bytes super_at fields methods entries =
+    class_file bytes ≡ Ok (record { version = 52; flags = 0x20; name = codes "A"; super_name = codes "B"; super_at = super_at; interfaces = []; fields = fields; methods = methods; pool = base ++ entries })
 
 -- the smallest
 abbrev pub SmallestIsRead : Type 0
-SmallestIsRead = Says (file 52 5 [] nothing) [] [] []
+SmallestIsRead = Says (file 52 5 [] nothing) 28 [] [] []
 
 -- entries x, I, J, ConstantValue, an Integer 7 and an Integer 9
 abbrev pub constants : List ℕ
@@ -31,9 +32,9 @@ field_with flags descriptor = file 52 11 constants (body (two 1 ++ two flags ++ 
 -- of a static field of int the first counts; it counts neither of a field that isn't static nor of one of long
 abbrev pub FirstConstantCounts : Type 0
 FirstConstantCounts =
-    Says (field_with 8 6) (record { at = 72; flags = 8; name = codes "x"; descriptor = codes "I"; constant = Some (pos 7) } ∷ []) [] constant_entries
-    × Says (field_with 0 6) (record { at = 72; flags = 0; name = codes "x"; descriptor = codes "I"; constant = None } ∷ []) [] constant_entries
-    × Says (field_with 8 7) (record { at = 72; flags = 8; name = codes "x"; descriptor = codes "J"; constant = None } ∷ []) [] constant_entries
+    Says (field_with 8 6) 66 (record { at = 72; flags = 8; name = codes "x"; descriptor = codes "I"; constant = Some (pos 7) } ∷ []) [] constant_entries
+    × Says (field_with 0 6) 66 (record { at = 72; flags = 0; name = codes "x"; descriptor = codes "I"; constant = None } ∷ []) [] constant_entries
+    × Says (field_with 8 7) 66 (record { at = 72; flags = 8; name = codes "x"; descriptor = codes "J"; constant = None } ∷ []) [] constant_entries
 
 -- entries m, ()V, Code and StackMapTable
 abbrev pub code_names : List ℕ
@@ -50,7 +51,7 @@ method_with flags attributes = file 52 9 code_names (body (two 0) (two 1 ++ two 
 abbrev pub FirstMapsCount : Type 0
 FirstMapsCount =
     Says (method_with 1 (two 1 ++ attribute 7 28 (code (two 2 ++ attribute 8 1 (5 ∷ []) ++ attribute 8 2 (6 ∷ 7 ∷ [])))))
-    [] (record {
+    61 [] (record {
       at = 69;
       flags = 1;
       name = codes "m";
@@ -61,4 +62,4 @@ FirstMapsCount =
 
 -- a native method has no code
 abbrev pub NativeHasNoCode : Type 0
-NativeHasNoCode = Says (file 52 9 code_names (body (two 0) (two 1 ++ 1 ∷ 8 ∷ two 5 ++ two 6 ++ two 0) (two 0))) [] (record { at = 69; flags = 0x108; name = codes "m"; descriptor = codes "()V"; code = None } ∷ []) code_entries
+NativeHasNoCode = Says (file 52 9 code_names (body (two 0) (two 1 ++ 1 ∷ 8 ∷ two 5 ++ two 6 ++ two 0) (two 0))) 61 [] (record { at = 69; flags = 0x108; name = codes "m"; descriptor = codes "()V"; code = None } ∷ []) code_entries

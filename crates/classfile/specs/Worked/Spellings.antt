@@ -8,16 +8,16 @@ use Rattle.classfile.specs.Worked.Files.{two, file, body, nothing}
 use Rattle.classfile.specs.Worked.ClassFiles.{base, constants, method_with}
 use Rattle.classfile.specs.Worked.PoolEntries.{zeros}
 
--- the class A without members
-abbrev pub plain : List Entry → ClassInfo
-plain entries = record { version = 52; flags = 0x20; name = codes "A"; super_name = codes "B"; interfaces = []; fields = []; methods = []; pool = base ++ entries }
+-- the class A without members, whose super_class stands at this place
+abbrev pub plain : ℕ → List Entry → ClassInfo
+plain super_at entries = record { version = 52; flags = 0x20; name = codes "A"; super_name = codes "B"; super_at = super_at; interfaces = []; fields = []; methods = []; pool = base ++ entries }
 
 abbrev pub SmallestIsSpelled : Type 0
-SmallestIsSpelled = IsSpelled (plain []) (file 52 5 [] nothing)
+SmallestIsSpelled = IsSpelled (plain 28 []) (file 52 5 [] nothing)
 
 -- a Long in the last place of the pool, whose second place is missing
 abbrev pub LastIsWide : Type 0
-LastIsWide = IsSpelled (plain (entry.Long (pos 0) ∷ [])) (file 52 6 (5 ∷ zeros) nothing)
+LastIsWide = IsSpelled (plain 37 (entry.Long (pos 0) ∷ [])) (file 52 6 (5 ∷ zeros) nothing)
 
 abbrev pub SpellNone : List ℕ → Type 0
 SpellNone bytes = (class : ClassInfo) → IsSpelled class bytes → ⊥

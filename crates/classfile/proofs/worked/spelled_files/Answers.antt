@@ -35,7 +35,7 @@ returns-clause-smallest c = record {
     split 2 (refl, refl)
         (split 4 (split 1 (refl, refl) (split 2 (refl, refl) refl)) (split 3 (split 1 (refl, refl) ((refl, refl), refl)) (split 4 (split 1 (refl, refl) (split 2 (refl, refl) refl)) (split 3 (split 1 (refl, refl) ((refl, refl), refl)) refl)))),
   )
-      (split 2 (refl, refl) (split 2 ((refl, refl), refl) (split 2 ((refl, refl), inr ((refl, refl), refl))
+      (split 2 (refl, refl) (split 2 ((refl, refl), refl) (split 2 (refl, (refl, refl), inr ((refl, refl), refl))
       (split 2 (split 2 (refl, refl) refl) (split 2 (split 2 (refl, refl) refl) (split 2 (split 2 (refl, refl) refl) (split 2 (refl, refl) refl))))))));
   first = omega arith;
   last = omega arith;
