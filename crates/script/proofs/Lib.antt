@@ -2,3 +2,9 @@ pub mod InTurnLemmas
 pub mod Joining
 pub mod Masks
 pub mod Moves
+pub mod WordLemmas
+pub mod NumberLemmas
+pub mod HexLemmas
+pub mod WrittenLines
+pub mod JoinedLemmas
+pub mod ReadBack

@@ -6,3 +6,5 @@ pub mod Writing
 pub mod Spaced
 pub mod Moves
 pub mod Worked
+pub mod InForm
+pub mod ReadsBack

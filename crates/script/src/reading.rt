@@ -199,6 +199,8 @@ fn next_said(
 /// A refusal is at the first line that shows Syntax, Range, Unknown or TooMany, and of its faults the first in
 /// this order; it has 0 for its file, which the caller sets. TooMany is shown by the first line with which the
 /// moves of all lines are more than `most`. Time and memory are in proportion to the text's length.
+///
+/// What is answered is a function of the text, the names and `most`: no text has two readings.
 pub fn read_script(alloc: Global, text: &[u8], names: &Names, most: u64) -> Result<Vec<Line>, Stop>
     requires { AreFew names.now }
     ensures { Answers (λ lines. lines.items) result (script_of names.now most text.now) }

@@ -128,6 +128,43 @@ fn equal_moves_are_written_as_one(rt: HostRuntime) -> Result<(), Fail> {
     Ok(())
 }
 
+#[test]
+fn what_is_written_reads_back(rt: HostRuntime) -> Result<(), Fail> {
+    let names = names(rt.alloc())?;
+    let poke = Move::Poke {
+        at: 5,
+        bytes: PokeBytes {
+            len: 3,
+            bytes: [0, 10, 255, 0, 0, 0, 0, 0],
+        },
+    };
+    let most = 1_000_000_000_000_000_000;
+    let lines = [
+        line(2, Move::Run),
+        line(3, Move::Run),
+        line(7, Move::Tick(1)),
+        line(1, Move::Tick(0)),
+        line(4, Move::Tick(0)),
+        line(1, poke),
+        line(1, poke),
+        line(most, Move::Run),
+        line(1, Move::Run),
+    ];
+    let joined = [
+        line(5, Move::Run),
+        line(7, Move::Tick(1)),
+        line(5, Move::Tick(0)),
+        line(1, poke),
+        line(1, poke),
+        line(most, Move::Run),
+        line(1, Move::Run),
+    ];
+    let text = write_script(rt.alloc(), &lines, &names)?;
+    let read = read_script(rt.alloc(), text.as_slice(), &names, 2 * most)?;
+    assert_eq!(rt; read.as_slice(), joined.as_slice());
+    Ok(())
+}
+
 fn service(call: Call, answer: i32) -> Event {
     Event::Service {
         who: Who::Task(1),

@@ -3,6 +3,8 @@
 ghost use Rattle.std.specs.Prelude.{◌≡◌, ◌++◌, decimal, OnOk, IfOk};
 ghost use Rattle.std.specs.List.{flat_map};
 ghost use Rattle.osek_core.specs.declared.moves.Move.TheVariants.{Tick, Poke};
+ghost use Rattle.script.specs.InForm.{AreInForm};
+ghost use Rattle.script.specs.ReadsBack.{ReadsBack};
 ghost use Rattle.script.specs.Writing.{summed, both, joined_from, step_text, line_text, script_text};
 
 use crate::hex::append_hex;
@@ -107,8 +109,16 @@ fn append_joined(
 
 /// The text of a script. A line is added to the one that was written just before it where both are steps, or
 /// both ticks of one counter, and their counts are no more than 10^18 in all. The count always stands there.
+///
+/// In form are lines with counts from 1 to 10^18, of which only steps and ticks have more than 1, ticks of counters
+/// that are there, and pokes of one to eight bytes that end within the device bytes. Names are in form where each
+/// counter has a name of its own of bytes above the blank, as the names of a configuration are. The text of such
+/// lines and names gives the joined lines again where it is read with room for their moves.
 pub fn write_script(alloc: Global, lines: &[Line], names: &Names) -> Result<Vec<u8>, NoMemory>
-    ensures { IfOk result (λ text. text.items ≡ script_text names.now lines.now) }
+    ensures text { IfOk result (λ text. text.items ≡ script_text names.now lines.now) }
+
+    // Where lines and names are in form, the text has one reading, the joined lines.
+    ensures back { AreInForm names.now lines.now → IfOk result (λ text. ReadsBack names.now lines.now text.items) }
 {
     let mut out = Vec::new(alloc);
     if let [first, others @ ..] = lines {
