@@ -1,10 +1,12 @@
+pub mod HexLemmas
 pub mod InTurnLemmas
+pub mod Inversion
+pub mod JoinedLemmas
 pub mod Joining
 pub mod Masks
 pub mod Moves
-pub mod WordLemmas
 pub mod NumberLemmas
-pub mod HexLemmas
-pub mod WrittenLines
-pub mod JoinedLemmas
 pub mod ReadBack
+pub mod ReadForm
+pub mod WordLemmas
+pub mod WrittenLines

@@ -1,5 +1,5 @@
 -- A script that is written is read as the lines that were written.
-use Rattle.std.proofs.Common.{◌≡◌, nat_le, ℕ, ◌+◌, ◌<◌, ◌≤◌, ◌^◌, Bool, true, false, List, [], ◌∷◌, ◌++◌, All, Result, Ok, Err, codes, decimal, append_assoc, flat_map, refl, sym, ap, ◌∙◌, arith, le-leb, lit<, if◌then◌else◌}
+use Rattle.std.proofs.Common.{◌≡◌, nat_le, ℕ, ◌+◌, ◌<◌, ◌≤◌, ◌^◌, Bool, true, false, List, [], ◌∷◌, ◌++◌, All, Result, Ok, codes, decimal, append_assoc, flat_map, refl, sym, ap, ◌∙◌, arith, le-leb, lit<, if◌then◌else◌}
 use Rattle.std.specs.List.{enumerate_from}
 use Rattle.std.proofs.lemmas.List.{append-nil}
 use Rattle.std.proofs.lemmas.List.Elements.{All-append, All-head, All-tail, All-weaker, All-get_or, All-from_recursion}
@@ -17,17 +17,12 @@ use Rattle.script.specs.Reading.{Said, with_line, next_said}
 use Rattle.script.specs.Writing.{step_text, line_text, script_text, joined}
 use Rattle.script.specs.InForm.{IsWord, AreNames, AreMoves, IsLine, AreInForm}
 use Rattle.script.specs.ReadsBack.{move_count, ReadsBack}
+use Rattle.script.proofs.Inversion.{err-ok, same_Ok}
 use Rattle.script.proofs.WordLemmas.{line_first}
 use Rattle.script.proofs.NumberLemmas.{decimal_is_word}
 use Rattle.script.proofs.HexLemmas.{hex_text, hex_is_word}
 use Rattle.script.proofs.WrittenLines.{line_says}
 use Rattle.script.proofs.JoinedLemmas.{joined_form, joined_count, counted}
-
-err-ok : {A E : Type 0} (e : E) (x : A) → ◌≡◌ {A = Result A E} (Err e) (Ok x) → ⊥
-err-ok e x h = cc
-
-same_Ok : {A E : Type 0} (x y : A) → ◌≡◌ {A = Result A E} (Ok x) (Ok y) → x ≡ y
-same_Ok x y h = cc
 
 -- a byte that ends no line, and is no carriage return before one
 abbrev IsInside : ℕ → Type 0

@@ -8,3 +8,4 @@ pub mod Moves
 pub mod Worked
 pub mod InForm
 pub mod ReadsBack
+pub mod ReadsInForm

@@ -14,7 +14,7 @@ mod writing;
 
 pub use event_words::event_line;
 pub use fail_kind::fail_kind_name;
-pub use law::{small_scripts, written_scripts_keep_their_moves};
+pub use law::{scripts_are_read_in_form, small_scripts, written_scripts_keep_their_moves};
 pub use line::Line;
 pub use names::Names;
 pub use osek_core::{Event, FailKind, Move, Place, PokeBytes, Who};
