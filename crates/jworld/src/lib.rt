@@ -1,0 +1,28 @@
+//! Classes by name (JVMS SE 8, 5.3 and 5.4).
+#![tactic(auto)]
+
+mod above;
+mod alone;
+mod classes;
+mod closure;
+mod cycles;
+mod faults;
+mod files;
+mod ids;
+mod law;
+mod members;
+mod methods;
+mod names;
+mod passed;
+mod row;
+mod splits;
+mod supers;
+#[cfg(test)]
+mod tests;
+mod worked;
+mod world;
+
+pub use ids::{ClassId, FieldId, MethodId};
+pub use law::above_is_the_closure;
+pub use worked::{classes_above, methods_of_interfaces, reference_types, split_packages};
+pub use world::World;
