@@ -47,6 +47,30 @@ fn interface<'t>(name: &'t [u8], interfaces: &'t [&'t [u8]]) -> Text<'t> {
     }
 }
 
+/// The same with fields, each by name and descriptor.
+fn with_fields<'t>(text: Text<'t>, fields: &'t [(&'t [u8], &'t [u8])]) -> Text<'t> {
+    Text {
+        name: text.name,
+        above: text.above,
+        flags: text.flags,
+        interfaces: text.interfaces,
+        fields,
+        methods: text.methods,
+    }
+}
+
+/// The same as an abstract class with methods, each by flags, name and descriptor.
+fn with_methods<'t>(text: Text<'t>, methods: &'t [(u16, &'t [u8], &'t [u8])]) -> Text<'t> {
+    Text {
+        name: text.name,
+        above: text.above,
+        flags: 0x0421,
+        interfaces: text.interfaces,
+        fields: text.fields,
+        methods,
+    }
+}
+
 fn count_of(length: usize) -> u16 {
     u16::try_from(length).unwrap_or(0)
 }
@@ -237,30 +261,43 @@ fn each_refusal_stands_at_its_place(rt: HostRuntime) -> Result<(), Fail> {
 
 #[test]
 fn other_package_splits(rt: HostRuntime) -> Result<(), Fail> {
-    let mut first = class(b"p/A", OBJECT, &NONE);
-    first.methods = &[(0x0400, b"m", b"()V")];
-    first.flags = 0x0421;
-    let mut second = class(b"q/B", b"p/A", &NONE);
-    second.methods = &[(0x0401, b"n", b"()V"), (0x0401, b"m", b"()V")];
-    second.flags = 0x0421;
+    let first = with_methods(class(b"p/A", OBJECT, &NONE), &[(0x0400, b"m", b"()V")]);
+    let methods: [(u16, &[u8], &[u8]); 2] = [(0x0401, b"n", b"()V"), (0x0401, b"m", b"()V")];
+    let second = with_methods(class(b"q/B", b"p/A", &NONE), &methods);
     shows_second(&rt, rt.alloc(), &first, &second, Kind::SplitPackage, 68)?;
     Ok(())
 }
 
+/// Two interfaces, J below I, and two classes, B below A, which is below J; they are the classes 4 to 7.
+fn four_files(alloc: Global) -> Result<Vec<Vec<u8>>, AllocError> {
+    let i = with_fields(interface(b"I", &NONE), &[(b"y", b"I"), (b"x", b"I")]);
+    let j = interface(b"J", &[b"I"]);
+    let a = class(b"A", b"java/lang/Exception", &[b"J", b"I"]);
+    let a = with_methods(a, &[(0x0101, b"m", b"()V")]);
+    let b = with_methods(class(b"B", b"A", &NONE), &[(0x0102, b"m", b"()V")]);
+    let mut files = Vec::new(alloc);
+    files.push(written(alloc, &i)?)?;
+    files.push(written(alloc, &j)?)?;
+    files.push(written(alloc, &a)?)?;
+    files.push(written(alloc, &b)?)?;
+    Ok(files)
+}
+
+fn world_of_four<'a>(alloc: Global, files: &'a [Vec<u8>]) -> Result<World<'a>, Stop> {
+    let mut classes: Vec<Class<'a>> = Vec::new(alloc);
+    for file in files {
+        classes.push(read_class(alloc, file.as_slice())?)?;
+    }
+    if classes.len() > 2048 {
+        return Err(Stop::NoMemory);
+    }
+    World::new(alloc, classes)
+}
+
 #[test]
-fn members_are_found(rt: HostRuntime) -> Result<(), Fail> {
-    let alloc = rt.alloc();
-    let mut i = interface(b"I", &NONE);
-    i.fields = &[(b"y", b"I"), (b"x", b"I")];
-    let i = written(alloc, &i)?;
-    let j = written(alloc, &interface(b"J", &[b"I"]))?;
-    let mut a = class(b"A", b"java/lang/Exception", &[b"J", b"I"]);
-    a.methods = &[(0x0101, b"m", b"()V")];
-    let a = written(alloc, &a)?;
-    let mut b = class(b"B", b"A", &NONE);
-    b.methods = &[(0x0102, b"m", b"()V")];
-    let b = written(alloc, &b)?;
-    let world = world_of(alloc, &[&i, &j, &a, &b])?;
+fn classes_are_found(rt: HostRuntime) -> Result<(), Fail> {
+    let files = four_files(rt.alloc())?;
+    let world = world_of_four(rt.alloc(), &files)?;
     assert_eq!(rt; world.count(), 8);
     let b = world.class(b"B").ok_or("no class")?;
     let a = world.class(b"A").ok_or("no class")?;
@@ -269,10 +306,22 @@ fn members_are_found(rt: HostRuntime) -> Result<(), Fail> {
     assert_eq!(rt; world.class(b"C"), None);
     assert_eq!(rt; world.name(a), b"A".as_slice());
     assert_eq!(rt; world.super_of(a), Some(ClassId { n: 2 }));
+    assert_eq!(rt; world.files().len(), 4);
     assert!(rt; world.is_subclass(b, ClassId { n: 1 }));
     assert!(rt; !world.is_subclass(b, i) && world.is_above(b, i));
     assert!(rt; world.is_interface(i) && !world.is_interface(a));
     assert!(rt; world.get(a).is_some() && world.get(ClassId { n: 3 }).is_none());
+    Ok(())
+}
+
+#[test]
+fn members_are_found(rt: HostRuntime) -> Result<(), Fail> {
+    let alloc = rt.alloc();
+    let files = four_files(alloc)?;
+    let world = world_of_four(alloc, &files)?;
+    let i = ClassId { n: 4 };
+    let a = ClassId { n: 6 };
+    let b = ClassId { n: 7 };
     let field = world.resolve_field(b, &field_key(alloc, b"x", b"I")?);
     assert_eq!(rt; field, Some(FieldId { class: i, n: 1 }));
     assert_eq!(rt;
