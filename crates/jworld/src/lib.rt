@@ -17,8 +17,6 @@ mod passed;
 mod row;
 mod splits;
 mod supers;
-#[cfg(test)]
-mod tests;
 mod worked;
 mod world;
 
