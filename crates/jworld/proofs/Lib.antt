@@ -21,3 +21,4 @@ pub mod SplitFrom
 pub mod Ranges
 pub mod Resolving
 pub mod Making
+pub mod Declaring

@@ -1,5 +1,5 @@
--- The numbers from one on, of which some pass a test, as a loop goes up along them.
-use Rattle.std.proofs.Common.{◌≡◌, ℕ, suc, ◌+◌, ◌-◌, ◌<◌, ◌≤◌, Bool, true, false, ◌&&◌, ◌||◌, cond, List, [], ◌∷◌, ◌++◌, filter, Option, Some, None, is_some, option_map, option_to_list, refl, sym, ap, ◌∙◌, arith}
+-- Numbers of which some pass a test, as a loop goes along them.
+use Rattle.std.proofs.Common.{◌≡◌, ℕ, suc, ◌+◌, ◌-◌, ◌<◌, Bool, true, false, ◌&&◌, ◌||◌, cond, List, [], ◌∷◌, ◌++◌, filter, drop, get_or, length, Option, Some, None, is_some, option_map, option_to_list, refl, sym, ap, ◌∙◌, add-one, drop-cons, arith}
 use Rattle.std.specs.List.{list_any, range_with_len}
 use Rattle.jworld.specs.declared.ids.ClassId.{ClassId}
 use Rattle.jworld.specs.Methods.{only_one}
@@ -20,35 +20,23 @@ pub list_any-filter : (p q : ℕ → Bool) (xs : List ℕ) → list_any p (filte
 list_any-filter p q [] = refl
 list_any-filter p q (x ∷ xs) = any_picked (q x) p x (filter q xs) (list_any (λ y. q y && p y) xs) (list_any-filter p q xs)
 
-module _ (test : ℕ → Bool) (end i : ℕ) where
-  from_here : i < end → range_with_len i (end - i) ≡ i ∷ range_with_len (i + 1) (end - (i + 1))
-  from_here within = let e : end - i ≡ suc (end - (i + 1)) = omega arith in rw e refl
+-- from a number on
+pub range_from : (end i : ℕ) → i < end → range_with_len i (end - i) ≡ i ∷ range_with_len (i + 1) (end - (i + 1))
+range_from end i within = let e : end - i ≡ suc (end - (i + 1)) = omega arith in rw e refl
 
-  at_end : end ≤ i → range_with_len i (end - i) ≡ []
-  at_end past = let e : end - i ≡ 0 = omega arith in rw e refl
+pub drop_from : (xs : List ℕ) (i : ℕ) → i < length xs → drop i xs ≡ get_or xs i 0 ∷ drop (i + 1) xs
+drop_from xs i within = rw add-one (drop-cons xs i 0 within)
 
-  pub any_here : (r : Bool) → i < end → test i ≡ true → list_any test (range_with_len i (end - i)) ≡ r → true ≡ r
-  any_here r within passing so_far = ap (λ (b : Bool). b || list_any test (range_with_len (i + 1) (end - (i + 1)))) (sym passing) ∙ sym (ap (list_any test) (from_here within)) ∙ so_far
+-- what is asked of those that pass
+module _ (test : ℕ → Bool) (n : ℕ) (all rest : List ℕ) (is : all ≡ n ∷ rest) {A : Type 0} (ask : List ℕ → A) (r : A) (so_far : ask (filter test all) ≡ r) where
+  abbrev later : List ℕ
+  later = filter test rest
 
-  pub any_later : (r : Bool) → i < end → test i ≡ false → list_any test (range_with_len i (end - i)) ≡ r → list_any test (range_with_len (i + 1) (end - (i + 1))) ≡ r
-  any_later r within failing so_far = ap (λ (b : Bool). b || list_any test (range_with_len (i + 1) (end - (i + 1)))) (sym failing) ∙ sym (ap (list_any test) (from_here within)) ∙ so_far
+  pub passes_here : test n ≡ true → ask (n ∷ later) ≡ r
+  passes_here passing = ap (λ (b : Bool). ask (cond b (n ∷ later) later)) (sym passing) ∙ sym (ap (λ (ns : List ℕ). ask (filter test ns)) is) ∙ so_far
 
-  pub any_nowhere : (r : Bool) → end ≤ i → list_any test (range_with_len i (end - i)) ≡ r → false ≡ r
-  any_nowhere r past so_far = sym (ap (list_any test) (at_end past)) ∙ so_far
-
-  -- what is asked of those that pass
-  module _ {A : Type 0} (ask : List ℕ → A) (r : A) (so_far : ask (filter test (range_with_len i (end - i))) ≡ r) where
-    abbrev later : List ℕ
-    later = filter test (range_with_len (i + 1) (end - (i + 1)))
-
-    pub passes_here : i < end → test i ≡ true → ask (i ∷ later) ≡ r
-    passes_here within passing = ap (λ (b : Bool). ask (cond b (i ∷ later) later)) (sym passing) ∙ sym (ap (λ (ns : List ℕ). ask (filter test ns)) (from_here within)) ∙ so_far
-
-    pub passes_later : i < end → test i ≡ false → ask later ≡ r
-    passes_later within failing = ap (λ (b : Bool). ask (cond b (i ∷ later) later)) (sym failing) ∙ sym (ap (λ (ns : List ℕ). ask (filter test ns)) (from_here within)) ∙ so_far
-
-    pub passes_nowhere : end ≤ i → ask [] ≡ r
-    passes_nowhere past = sym (ap (λ (ns : List ℕ). ask (filter test ns)) (at_end past)) ∙ so_far
+  pub passes_later : test n ≡ false → ask later ≡ r
+  passes_later failing = ap (λ (b : Bool). ask (cond b (n ∷ later) later)) (sym failing) ∙ sym (ap (λ (ns : List ℕ). ask (filter test ns)) is) ∙ so_far
 
 -- ---- one that was found, and others behind it
 

@@ -6,6 +6,7 @@ pub mod Ways
 pub mod Edges
 pub mod Row
 pub mod Above
+pub mod Superinterfaces
 pub mod Members
 pub mod Fields
 pub mod Methods

@@ -16,11 +16,15 @@ mod names;
 mod passed;
 mod row;
 mod splits;
+mod superinterfaces;
 mod supers;
 mod worked;
 mod world;
 
 pub use ids::{ClassId, FieldId, MethodId};
 pub use law::above_is_the_closure;
-pub use worked::{classes_above, methods_of_interfaces, reference_types, split_packages};
+pub use worked::{
+    classes_above, fields_found, files_refused, methods_of_interfaces, numbered_classes,
+    reference_types, split_packages,
+};
 pub use world::World;

@@ -6,7 +6,7 @@ ghost use Rattle.jworld.specs.Above.{is_above};
 ghost use Rattle.jworld.specs.Upwards.{upwards};
 ghost use Rattle.jworld.specs.Fields.{first_found};
 ghost use Rattle.jworld.specs.Members.{is_method, declared_method};
-ghost use Rattle.jworld.specs.Methods.{inherited_method, concrete_method, is_declaring, declaring, is_most_specific, most_specific, only_one, interface_of, asked_first, resolved_method};
+ghost use Rattle.jworld.specs.Methods.{inherited_method, concrete_method, declaring, is_most_specific, most_specific, only_one, interface_of, asked_first, resolved_method};
 
 use crate::ids::{ClassId, MethodId};
 use crate::world::World;
@@ -15,60 +15,56 @@ use jnames::MethodKey;
 const OBJECT: ClassId = ClassId { n: 0 };
 
 impl<'a> World<'a> {
-    /// Whether a class is a superinterface of another, and declares a method that is inherited.
-    fn is_declaring(&self, class: ClassId, key: &MethodKey, above: ClassId) -> bool
-        ensures { result ≡ is_declaring self.now key.now class.n above.n }
+    /// Whether a class declares a method that is inherited.
+    fn is_declaring(&self, class: ClassId, key: &MethodKey) -> bool
+        ensures { result ≡ is_some (inherited_method self.now key.now class.n) }
     {
-        self.is_interface(above)
-            && self.is_above(class, above)
-            && self.inherited_method(above, key).is_some()
+        self.inherited_method(class, key).is_some()
     }
 
     /// The first superinterface that declares a method.
     fn first_declaring(&self, class: ClassId, key: &MethodKey) -> Option<ClassId>
         ensures { option_map (λ c. c.n) result ≡ slice_get (declaring self.now key.now class.n) 0 }
     {
-        for n in 0..self.count() {
-            let above = ClassId { n };
-            if self.is_declaring(class, key, above) {
+        for n in self.superinterfaces(class) {
+            let above = ClassId { n: *n };
+            if self.is_declaring(above, key) {
                 return Some(above);
             }
         }
         None
     }
 
-    /// Whether a superinterface that declares a method is below a class.
-    fn is_declaring_below(
-        &self,
-        class: ClassId,
-        key: &MethodKey,
-        below: ClassId,
-        above: ClassId,
-    ) -> bool
-        ensures { result ≡ (is_declaring self.now key.now class.n below.n && is_above self.now below.n above.n) }
+    /// Whether a class declares a method and is below another.
+    fn is_declaring_below(&self, below: ClassId, key: &MethodKey, above: ClassId) -> bool
+        ensures { result ≡ (is_some (inherited_method self.now key.now below.n) && is_above self.now below.n above.n) }
     {
-        self.is_declaring(class, key, below) && self.is_above(below, above)
+        self.is_above(below, above) && self.is_declaring(below, key)
+    }
+
+    /// Whether one of these classes declares a method and is below another.
+    fn is_one_declaring_below(&self, classes: &[u32], key: &MethodKey, above: ClassId) -> bool
+        ensures { result ≡ list_any (λ below. is_some (inherited_method self.now key.now below) && is_above self.now below above.n) classes.now }
+    {
+        classes
+            .iter()
+            .any(|n| self.is_declaring_below(ClassId { n: *n }, key, above))
     }
 
     /// Whether some superinterface that declares a method is below a class.
     fn is_declared_below(&self, class: ClassId, key: &MethodKey, above: ClassId) -> bool
         ensures { result ≡ list_any (λ below. is_above self.now below above.n) (declaring self.now key.now class.n) }
     {
-        for n in 0..self.count() {
-            if self.is_declaring_below(class, key, ClassId { n }, above) {
-                return true;
-            }
-        }
-        false
+        self.is_one_declaring_below(self.superinterfaces(class), key, above)
     }
 
     /// Whether a superinterface declares a method that isn't abstract, and none below it declares one.
     fn is_candidate(&self, class: ClassId, key: &MethodKey, above: ClassId) -> bool
-        ensures { result ≡ (is_declaring self.now key.now class.n above.n && is_most_specific self.now key.now class.n above.n && is_some (concrete_method self.now key.now above.n)) }
+        ensures { result ≡ (is_some (inherited_method self.now key.now above.n) && is_most_specific self.now key.now class.n above.n && is_some (concrete_method self.now key.now above.n)) }
     {
-        self.is_declaring(class, key, above)
-            && !self.is_declared_below(class, key, above)
+        self.is_declaring(above, key)
             && self.concrete_method(above, key).is_some()
+            && !self.is_declared_below(class, key, above)
     }
 
     /// The maximally specific superinterface whose method isn't abstract, if there is exactly one.
@@ -76,8 +72,8 @@ impl<'a> World<'a> {
         ensures { option_map (λ c. c.n) result ≡ only_one (filter (λ above. is_some (concrete_method self.now key.now above)) (most_specific self.now key.now class.n)) }
     {
         let mut found = None;
-        for n in 0..self.count() {
-            let above = ClassId { n };
+        for n in self.superinterfaces(class) {
+            let above = ClassId { n: *n };
             if self.is_candidate(class, key, above) {
                 if found.is_some() {
                     return None;

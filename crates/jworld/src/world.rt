@@ -5,6 +5,7 @@ ghost use Rattle.std.specs.Option.{option_copied};
 ghost use Rattle.jworld.specs.Classes.{names, class_named, file_of, super_of, interfaces_of, is_interface, count};
 ghost use Rattle.jworld.specs.Upwards.{is_subclass};
 ghost use Rattle.jworld.specs.Above.{is_above, TellsAbove};
+ghost use Rattle.jworld.specs.Superinterfaces.{superinterfaces};
 ghost use Rattle.jworld.specs.Members.{is_method, declared_field, declared_method};
 ghost use Rattle.jworld.specs.Fields.{first_found, resolved_field};
 ghost use Rattle.jworld.specs.Passed.{FindNothing};
@@ -21,9 +22,11 @@ use crate::ids::{ClassId, FieldId, MethodId};
 use crate::members::{built_in_place, concrete_place, field_place, inherited_place, method_place};
 use crate::passed::Passed;
 use crate::splits::split_fault;
+use crate::superinterfaces::all_superinterfaces;
 use classfile::Class;
 use jnames::{FieldKey, MethodKey};
 use kes_text::{NoMemory, Refusal, Stop};
+use sqlite_items::Items;
 use std::alloc::Global;
 use std::marker::Model;
 
@@ -33,6 +36,7 @@ use std::marker::Model;
 pub struct World<'a> {
     classes: Classes<'a>,
     above: Closure,
+    superinterfaces: Items<Items<u32>>,
 }
 
 impl<'a> Model for World<'a> {
@@ -43,7 +47,7 @@ impl<'a> Model for World<'a> {
 
     ghost view = { λ w. w.classes };
 
-    ghost invariant = { λ w. IsWorld w.classes w.above };
+    ghost invariant = { λ w. IsWorld w.classes w.above w.superinterfaces };
 }
 
 /// Why classes of different names don't fit together.
@@ -83,7 +87,14 @@ impl<'a> World<'a> {
         let above = above_of(alloc, &classes)?;
         match misfit(alloc, &classes, &above)? {
             Some(fault) => Err(Stop::Refused(fault)),
-            None => Ok(World { classes, above }),
+            None => {
+                let superinterfaces = all_superinterfaces(alloc, &classes, &above)?;
+                Ok(World {
+                    classes,
+                    above,
+                    superinterfaces,
+                })
+            }
         }
     }
 
@@ -152,6 +163,16 @@ impl<'a> World<'a> {
         ensures { result ≡ is_above self.now class.n above.n }
     {
         self.above.has(class.n, above.n)
+    }
+
+    /// The superinterfaces of a class, direct and indirect, by number.
+    pub(crate) fn superinterfaces(&self, class: ClassId) -> &[u32]
+        ensures { result.now ≡ superinterfaces self.now class.n }
+    {
+        match self.superinterfaces.get(class.n as usize) {
+            Some(found) => found.as_slice(),
+            None => &[],
+        }
     }
 
     /// Whether a class is an interface.

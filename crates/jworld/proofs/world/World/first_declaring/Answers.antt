@@ -1,9 +1,8 @@
-use Rattle.std.proofs.Common.{List, ℕ, sym, slice_get}
-use Rattle.jworld.specs.Methods.{is_declaring, declaring}
-use Rattle.jworld.proofs.Ranges.{passes_later}
+use Rattle.std.proofs.Common.{◌∙◌, ap, List, ℕ, filter, slice_get}
+use Rattle.jworld.proofs.Declaring.{declares, declaring_among}
 use Rattle.jworld.proofs.world.World.first_declaring.Goals as goal
 
-pub loop-n-preserved : goal.loop-n-preserved
-loop-n-preserved c =
-    passes_later (is_declaring c.args.self.now c.args.key.now c.args.class.n) c.count-n-end.result c.loop-n.n (λ (ns : List ℕ). slice_get ns 0)
-    (slice_get (declaring c.args.self.now c.args.key.now c.args.class.n) 0) c.loop-n.invariant c.loop-n-test.true (sym c.if-is_declaring.ensures)
+pub loop-n-init : goal.loop-n-init
+loop-n-init c =
+    ap (λ (ns : List ℕ). slice_get (filter (declares c.args.self.now c.args.key.now) ns) 0) c.superinterfaces-n-items.ensures
+    ∙ ap (λ (ns : List ℕ). slice_get ns 0) (declaring_among c.args.self.now c.args.key.now c.args.class.n)
