@@ -7,6 +7,7 @@ pub mod Mapped
 pub mod Numbered
 pub mod Supering
 pub mod FirstFault
+pub mod NamedFile
 pub mod Walking
 pub mod Faultless
 pub mod Counting

@@ -1,5 +1,5 @@
 -- Why class files are no world: the first fault, in the order of the kinds and of the files.
-use Rattle.std.specs.Prelude.{ℕ, ◌+◌, ◌-◌, ◌^◌, min, Bool, true, false, List, [], ◌∷◌, take, length, sum_by, Option, Some, None, Result, Ok, Err, bytes_eq, ◌==◌, ◌||◌, nat_lt, if◌then◌else◌}
+use Rattle.std.specs.Prelude.{ℕ, ◌<◌, ◌+◌, ◌-◌, ◌^◌, min, Bool, true, false, List, [], ◌∷◌, take, length, sum_by, Option, Some, None, Result, Ok, Err, bytes_eq, ◌==◌, ◌||◌, nat_lt, if◌then◌else◌}
 use Rattle.std.specs.List.{list_any}
 use mathlib.Core.Bool.{beq}
 use Rattle.kes_text.specs.declared.refusal.Kind.{Kind}
@@ -103,3 +103,8 @@ unless (Some fault) x = Err (Refused fault)
 -- the world of class files, or why they are none
 abbrev pub world_of : List ClassInfo → Result World Stop
 world_of files = unless (world_fault files) files
+
+-- a fault is that of one of so many files
+abbrev pub IsOfFile : ℕ → Stop → Type 0
+IsOfFile n (Refused fault) = fault.file < n
+IsOfFile n _ = Unit {0}

@@ -1,6 +1,6 @@
 -- When a value of one reference type is one of another (JVMS SE 8, checkcast; JLS 4.10). A reference type is the name of a class or
 -- interface, or the descriptor of an array.
-use Rattle.std.specs.Prelude.{ℕ, Bool, false, List, [], ◌∷◌, take_while, Option, Some, bytes_eq, codes, not, ◌==◌, ◌||◌, if◌then◌else◌}
+use Rattle.std.specs.Prelude.{ℕ, ◌-◌, Bool, false, List, [], ◌∷◌, take, length, Option, Some, bytes_eq, codes, ◌==◌, ◌&&◌, ◌||◌, if◌then◌else◌}
 use Rattle.jworld.specs.Classes.{World, class_named}
 use Rattle.jworld.specs.Above.{is_above}
 
@@ -9,10 +9,15 @@ pub record Rule : Type 0 where
   pub class : List ℕ → List ℕ → Bool
   pub array : List ℕ → Bool
 
--- the reference type of a descriptor: the name in Lname; and the whole of [..; no bytes for a primitive type
+-- whether a descriptor is that of a class or an array
+abbrev pub is_reference : List ℕ → Bool
+is_reference [] = false
+is_reference (c ∷ rest) = c == 76 || c == 91
+
+-- the reference type of such a descriptor: the name in Lname; whatever its bytes, and the whole of [..
 abbrev pub reference_in : List ℕ → List ℕ
 reference_in [] = []
-reference_in (c ∷ rest) = if c == 76 then take_while (λ b. not (b == 59)) rest else if c == 91 then c ∷ rest else []
+reference_in (c ∷ rest) = if c == 76 then take (length rest - 1) rest else c ∷ rest
 
 -- a class, as a reference type
 abbrev pub class_fits : Rule → List ℕ → List ℕ → Bool
@@ -28,8 +33,8 @@ array_fits rule items_fit (c ∷ to) = if c == 91 then items_fit to else rule.ar
 unfoldable pub items_fit : Rule → List ℕ → List ℕ → Bool
 items_fit rule [] to = false
 items_fit rule (c ∷ items) to =
-    if c == 91 then array_fits rule (items_fit rule items) (reference_in to)
-    else if c == 76 then class_fits rule (reference_in (c ∷ items)) (reference_in to)
+    if c == 91 then is_reference to && array_fits rule (items_fit rule items) (reference_in to)
+    else if c == 76 then is_reference to && class_fits rule (reference_in (c ∷ items)) (reference_in to)
     else bytes_eq (c ∷ items) to
 
 abbrev pub fits : Rule → List ℕ → List ℕ → Bool

@@ -1,6 +1,6 @@
 //! A world of classes that fit together.
 
-ghost use Rattle.std.specs.Prelude.{◌≡◌, ◌≤◌, None, IfSome, IfOk, ◌+◌, length, option_map, slice_index_or, []};
+ghost use Rattle.std.specs.Prelude.{◌≡◌, ◌≤◌, None, IfSome, IfOk, IfErr, ◌+◌, length, option_map, slice_index_or, []};
 ghost use Rattle.std.specs.Option.{option_copied};
 ghost use Rattle.jworld.specs.Classes.{names, class_named, file_of, super_of, interfaces_of, is_interface, count};
 ghost use Rattle.jworld.specs.Upwards.{is_subclass};
@@ -10,7 +10,7 @@ ghost use Rattle.jworld.specs.Members.{is_method, declared_field, declared_metho
 ghost use Rattle.jworld.specs.Fields.{first_found, resolved_field};
 ghost use Rattle.jworld.specs.Passed.{FindNothing};
 ghost use Rattle.jworld.specs.Methods.{inherited_method, concrete_method, selected_method};
-ghost use Rattle.jworld.specs.Faults.{world_fault, misfit, world_of};
+ghost use Rattle.jworld.specs.Faults.{world_fault, misfit, world_of, IsOfFile};
 ghost use Rattle.kes_text.specs.Answers.{OrNoMemory};
 
 use crate::above::above_of;
@@ -75,11 +75,8 @@ fn misfit(
 }
 
 impl<'a> World<'a> {
-    /// The world of at most 2,048 class files. They are refused where two of them have one name, or one has that of a
-    /// built-in class or of an array; where a superclass or an interface isn't there or is of the other kind; where a
-    /// class stands above itself; where a method that a class declares for its package alone is declared again in
-    /// another package below; and where they have more than 65,536 fields and methods.
-    pub fn new(alloc: Global, classes: Vec<Class<'a>>) -> Result<World<'a>, Stop>
+    /// The world of these class files, or their first fault.
+    fn of_classes(alloc: Global, classes: Vec<Class<'a>>) -> Result<World<'a>, Stop>
         requires { length classes.items ≤ 2048 }
         ensures { OrNoMemory result (world_of classes.entry.items) }
     {
@@ -96,6 +93,18 @@ impl<'a> World<'a> {
                 })
             }
         }
+    }
+
+    /// The world of at most 2,048 class files. They are refused where two of them have one name, or one has that of a
+    /// built-in class or of an array; where a superclass or an interface isn't there or is of the other kind; where a
+    /// class stands above itself; where a method that a class declares for its package alone is declared again in
+    /// another package below; and where they have more than 65,536 fields and methods.
+    pub fn new(alloc: Global, classes: Vec<Class<'a>>) -> Result<World<'a>, Stop>
+        requires { length classes.items ≤ 2048 }
+        ensures says { OrNoMemory result (world_of classes.entry.items) }
+        ensures file { IfErr result (IsOfFile (length classes.entry.items)) }
+    {
+        World::of_classes(alloc, classes)
     }
 
     /// The class files, in their order. They have none of the faults for which class files are refused.
