@@ -53,123 +53,126 @@ native A.n()I Schedule
 /// The line behind these.
 const NEXT: u64 = 13;
 
+/// Lines that may stand behind these.
+const LAWFUL: &str = "
+devices base 0 size 0
+devices base 4294967288 size 65536
+domain dd heap 8388608
+domain t heap 0x40
+domain n2345678901234567890123456789012 heap 0
+counter d max 2147483647 base 65535 min 2147483647
+counter d max 1 base 1 min 1
+event d
+resource e
+task v domain d prio 63 acts 15 auto no sched non entry a.b.run
+task v domain d prio 0 acts 0001 auto no sched non entry B.run
+use t r
+wait t e
+alarm b counter c activate u
+start a at 1 cycle 0
+start a at 100 cycle 5
+start a at 0x64 cycle 0x64
+native A.m()I ActivateTask t
+native A.m()I TerminateTask
+native A.m()I ChainTask t
+native A.m()I GetResource r
+native A.m()I ReleaseResource r
+native A.m()I SetEvent t e
+native A.m()I SetEvent t f+e
+native A.m()I ClearEvent e+f
+native A.m()I GetEvent t
+native A.m()I WaitEvent f
+native A.m(II)I SetRelAlarm a
+native A.m(II)I SetAbsAlarm a
+native A.m()I CancelAlarm a
+native A.m()I GetAlarm a
+cell Port.in at 65528 width 8
+cell a.b.c at 3 width 1
+object p class Port base 18446744073709551608
+device A.p()LPort; o
+portal A.q()I domain d target B.s()I limit 1
+portal A.q()I domain d target B.s()I limit 256";
+
 #[test]
 fn lawful_lines_read(rt: HostRuntime) -> Result<(), Fail> {
-    for line in [
-        "",
-        "devices base 0 size 0",
-        "devices base 4294967288 size 65536",
-        "domain dd heap 8388608",
-        "domain t heap 0x40",
-        "domain n2345678901234567890123456789012 heap 0",
-        "counter d max 2147483647 base 65535 min 2147483647",
-        "counter d max 1 base 1 min 1",
-        "event d",
-        "resource e",
-        "task v domain d prio 63 acts 15 auto no sched non entry a.b.run",
-        "task v domain d prio 0 acts 0001 auto no sched non entry B.run",
-        "use t r",
-        "wait t e",
-        "alarm b counter c activate u",
+    for line in LAWFUL.lines().chain([
         "wait t e\nalarm b counter c set t e",
         "alarm b counter c set t e\nwait t e",
-        "start a at 1 cycle 0",
-        "start a at 100 cycle 5",
-        "start a at 0x64 cycle 0x64",
-        "native A.m()I ActivateTask t",
-        "native A.m()I TerminateTask",
-        "native A.m()I ChainTask t",
-        "native A.m()I GetResource r",
-        "native A.m()I ReleaseResource r",
-        "native A.m()I SetEvent t e",
-        "native A.m()I SetEvent t f+e",
-        "native A.m()I ClearEvent e+f",
-        "native A.m()I GetEvent t",
-        "native A.m()I WaitEvent f",
-        "native A.m(II)I SetRelAlarm a",
-        "native A.m(II)I SetAbsAlarm a",
-        "native A.m()I CancelAlarm a",
-        "native A.m()I GetAlarm a",
-        "cell Port.in at 65528 width 8",
-        "cell a.b.c at 3 width 1",
-        "object p class Port base 18446744073709551608",
-        "device A.p()LPort; o",
-        "portal A.q()I domain d target B.s()I limit 1",
-        "portal A.q()I domain d target B.s()I limit 256",
-    ] {
+    ]) {
         let text = format!(in rt.alloc(); "{DECLARED}{line}")?;
         assert!(rt; read_config(rt.alloc(), text.as_bytes()).is_ok(), "{line}");
     }
     Ok(())
 }
 
+/// Lines that have no form.
+const OF_ANOTHER_FORM: &str = "keso 1 order little
+nothing
+Domain x heap 8
+devices base 0 size
+devices base 0 size 0 0
+devices size 0 base 0
+domain 9x heap 8
+domain n23456789012345678901234567890123 heap 8
+domain a-b heap 8
+domain x heap -8
+domain x heap 0x
+domain x heap 0x12345678901234567
+domain x heap 8x
+domain x heap 0X8
+counter x max 1 base 1
+counter x max 1 min 1 base 1
+event
+event _x
+event x y
+resource 1
+task v domain d prio 1 acts 1 auto y sched full entry A.b
+task v domain d prio 1 acts 1 auto yes sched half entry A.b
+task v domain d prio 1 acts 1 auto yes sched full entry b
+task v domain d prio 1 acts 1 auto yes sched full entry .b
+task v domain d prio 1 acts 1 auto yes sched full entry A.
+task v domain d prio 1 acts 1 auto yes sched full entry A.9
+task v domain d prio 1 acts 1 auto yes sched full
+task v domain d acts 1 prio 1 auto yes sched full entry A.b
+use t
+use t r r
+wait t
+alarm b counter c
+alarm b counter c activate
+alarm b counter c activate t e
+alarm b counter c set t
+alarm b count c activate t
+start a at 1
+start a at x cycle 0
+native A.m()I
+native A.m()I Activate t
+native A.m()I ActivateTask
+native A.m()I ActivateTask t t
+native A.m()I TerminateTask t
+native A.m()I SetEvent t
+native A.m()I SetEvent t e+e
+native A.m()I SetEvent t e++f
+native A.m()I ClearEvent +e
+native A.m()I WaitEvent e+
+native m()I Schedule
+native A(m.I Schedule
+native A.m\t()I Schedule
+cell Port at 0 width 4
+cell Port. at 0 width 4
+cell .out at 0 width 4
+cell Port.x at 0 width 3
+cell Port.x at 0 width 04
+object p class Port
+object p class P\u{7f} base 0
+device A.p o
+device A.p()LPort; o o
+portal A.q()I domain d target B.s limit 1
+portal A.q()I domain d target B.s()I limit one
+event\te";
+
 #[test]
 fn lines_of_another_form_are_syntax(rt: HostRuntime) -> Result<(), Fail> {
-    for line in [
-        "keso 1 order little",
-        "nothing",
-        "Domain x heap 8",
-        "devices base 0 size",
-        "devices base 0 size 0 0",
-        "devices size 0 base 0",
-        "domain 9x heap 8",
-        "domain n23456789012345678901234567890123 heap 8",
-        "domain a-b heap 8",
-        "domain x heap -8",
-        "domain x heap 0x",
-        "domain x heap 0x12345678901234567",
-        "domain x heap 8x",
-        "domain x heap 0X8",
-        "counter x max 1 base 1",
-        "counter x max 1 min 1 base 1",
-        "event",
-        "event _x",
-        "event x y",
-        "resource 1",
-        "task v domain d prio 1 acts 1 auto y sched full entry A.b",
-        "task v domain d prio 1 acts 1 auto yes sched half entry A.b",
-        "task v domain d prio 1 acts 1 auto yes sched full entry b",
-        "task v domain d prio 1 acts 1 auto yes sched full entry .b",
-        "task v domain d prio 1 acts 1 auto yes sched full entry A.",
-        "task v domain d prio 1 acts 1 auto yes sched full entry A.9",
-        "task v domain d prio 1 acts 1 auto yes sched full",
-        "task v domain d acts 1 prio 1 auto yes sched full entry A.b",
-        "use t",
-        "use t r r",
-        "wait t",
-        "alarm b counter c",
-        "alarm b counter c activate",
-        "alarm b counter c activate t e",
-        "alarm b counter c set t",
-        "alarm b count c activate t",
-        "start a at 1",
-        "start a at x cycle 0",
-        "native A.m()I",
-        "native A.m()I Activate t",
-        "native A.m()I ActivateTask",
-        "native A.m()I ActivateTask t t",
-        "native A.m()I TerminateTask t",
-        "native A.m()I SetEvent t",
-        "native A.m()I SetEvent t e+e",
-        "native A.m()I SetEvent t e++f",
-        "native A.m()I ClearEvent +e",
-        "native A.m()I WaitEvent e+",
-        "native m()I Schedule",
-        "native A(m.I Schedule",
-        "native A.m\t()I Schedule",
-        "cell Port at 0 width 4",
-        "cell Port. at 0 width 4",
-        "cell .out at 0 width 4",
-        "cell Port.x at 0 width 3",
-        "cell Port.x at 0 width 04",
-        "object p class Port",
-        "object p class P\u{7f} base 0",
-        "device A.p o",
-        "device A.p()LPort; o o",
-        "portal A.q()I domain d target B.s limit 1",
-        "portal A.q()I domain d target B.s()I limit one",
-        "event\te",
-    ] {
+    for line in OF_ANOTHER_FORM.lines() {
         assert_eq!(rt;
             refusal_behind(rt.alloc(), line)?,
             Some((Kind::Syntax, NEXT)),
@@ -179,41 +182,42 @@ fn lines_of_another_form_are_syntax(rt: HostRuntime) -> Result<(), Fail> {
     Ok(())
 }
 
+/// Lines with a number outside its bounds.
+const OUTSIDE_BOUNDS: &str = "devices base 4 size 0
+devices base 4294967296 size 0
+devices base 0 size 12
+devices base 0 size 65544
+domain x heap 4
+domain x heap 8388616
+domain x heap 18446744073709551616
+domain x heap 99999999999999999999999999999999999999999
+counter x max 0 base 1 min 1
+counter x max 2147483648 base 1 min 1
+counter x max 9 base 0 min 1
+counter x max 9 base 65536 min 1
+counter x max 9 base 1 min 0
+counter x max 9 base 1 min 10
+task v domain d prio 64 acts 1 auto yes sched full entry A.b
+task v domain d prio 1 acts 0 auto yes sched full entry A.b
+task v domain d prio 1 acts 16 auto yes sched full entry A.b
+wait u e
+wait u nothing
+start a at 0 cycle 0
+start a at 101 cycle 0
+start a at 1 cycle 4
+start a at 1 cycle 101
+start nothing at 18446744073709551616 cycle 0
+start nothing at 0 cycle 18446744073709551616
+cell Port.x at 65536 width 1
+cell Port.x at 2 width 4
+object p class Port base 4
+object p class Port base 18446744073709551616
+portal A.q()I domain d target B.s()I limit 0
+portal A.q()I domain d target B.s()I limit 257";
+
 #[test]
 fn numbers_outside_their_bounds_are_range(rt: HostRuntime) -> Result<(), Fail> {
-    for line in [
-        "devices base 4 size 0",
-        "devices base 4294967296 size 0",
-        "devices base 0 size 12",
-        "devices base 0 size 65544",
-        "domain x heap 4",
-        "domain x heap 8388616",
-        "domain x heap 18446744073709551616",
-        "domain x heap 99999999999999999999999999999999999999999",
-        "counter x max 0 base 1 min 1",
-        "counter x max 2147483648 base 1 min 1",
-        "counter x max 9 base 0 min 1",
-        "counter x max 9 base 65536 min 1",
-        "counter x max 9 base 1 min 0",
-        "counter x max 9 base 1 min 10",
-        "task v domain d prio 64 acts 1 auto yes sched full entry A.b",
-        "task v domain d prio 1 acts 0 auto yes sched full entry A.b",
-        "task v domain d prio 1 acts 16 auto yes sched full entry A.b",
-        "wait u e",
-        "wait u nothing",
-        "start a at 0 cycle 0",
-        "start a at 101 cycle 0",
-        "start a at 1 cycle 4",
-        "start a at 1 cycle 101",
-        "start nothing at 18446744073709551616 cycle 0",
-        "start nothing at 0 cycle 18446744073709551616",
-        "cell Port.x at 65536 width 1",
-        "cell Port.x at 2 width 4",
-        "object p class Port base 4",
-        "object p class Port base 18446744073709551616",
-        "portal A.q()I domain d target B.s()I limit 0",
-        "portal A.q()I domain d target B.s()I limit 257",
-    ] {
+    for line in OUTSIDE_BOUNDS.lines() {
         assert_eq!(rt;
             refusal_behind(rt.alloc(), line)?,
             Some((Kind::Range, NEXT)),
@@ -223,21 +227,22 @@ fn numbers_outside_their_bounds_are_range(rt: HostRuntime) -> Result<(), Fail> {
     Ok(())
 }
 
+/// Lines that declare what stands already.
+const STANDING: &str = "domain d heap 8
+counter c max 9 base 1 min 1
+event e
+resource r
+task t domain nothing prio 1 acts 1 auto yes sched full entry A.b
+alarm a counter nothing activate t
+object o class Port base 8
+cell Port.out at 4 width 4
+native A.n()I ActivateTask nothing
+device A.n()I nothing
+portal A.n()I domain nothing target B.s()I limit 1";
+
 #[test]
 fn what_stands_already_is_twice(rt: HostRuntime) -> Result<(), Fail> {
-    for line in [
-        "domain d heap 8",
-        "counter c max 9 base 1 min 1",
-        "event e",
-        "resource r",
-        "task t domain nothing prio 1 acts 1 auto yes sched full entry A.b",
-        "alarm a counter nothing activate t",
-        "object o class Port base 8",
-        "cell Port.out at 4 width 4",
-        "native A.n()I ActivateTask nothing",
-        "device A.n()I nothing",
-        "portal A.n()I domain nothing target B.s()I limit 1",
-    ] {
+    for line in STANDING.lines() {
         assert_eq!(rt;
             refusal_behind(rt.alloc(), line)?,
             Some((Kind::Twice, NEXT)),
@@ -260,38 +265,41 @@ fn what_stands_already_is_twice(rt: HostRuntime) -> Result<(), Fail> {
     Ok(())
 }
 
+/// Lines that name what is declared nowhere.
+const UNDECLARED: &str = "task v domain x prio 1 acts 1 auto yes sched full entry A.b
+use x r
+use 9x r
+use t x
+wait x e
+wait t x
+alarm b counter x activate t
+alarm b counter c activate x
+alarm b counter c set x e
+alarm b counter c set t x
+alarm b counter c set t e
+start x at 0 cycle 4
+native A.m()I ActivateTask x
+native A.m()I ChainTask e
+native A.m()I GetEvent x
+native A.m()I GetResource t
+native A.m()I ReleaseResource x
+native A.m()I SetEvent x e
+native A.m()I SetEvent t e+x
+native A.m()I ClearEvent r
+native A.m()I WaitEvent e+9x
+native A.m()I SetRelAlarm x
+native A.m()I SetAbsAlarm x
+native A.m()I CancelAlarm x
+native A.m()I GetAlarm x
+device A.p()LPort; x
+portal A.q()I domain x target B.s()I limit 1";
+
 #[test]
 fn what_is_undeclared_is_unknown(rt: HostRuntime) -> Result<(), Fail> {
-    for line in [
-        "task v domain x prio 1 acts 1 auto yes sched full entry A.b",
-        "use x r",
-        "use 9x r",
-        "use t x",
-        "wait x e",
-        "wait t x",
-        "alarm b counter x activate t",
-        "alarm b counter c activate x",
-        "alarm b counter c set x e",
-        "alarm b counter c set t x",
-        "alarm b counter c set t e",
-        "alarm b counter c set t e\nwait t f",
-        "start x at 0 cycle 4",
-        "native A.m()I ActivateTask x",
-        "native A.m()I ChainTask e",
-        "native A.m()I GetEvent x",
-        "native A.m()I GetResource t",
-        "native A.m()I ReleaseResource x",
-        "native A.m()I SetEvent x e",
-        "native A.m()I SetEvent t e+x",
-        "native A.m()I ClearEvent r",
-        "native A.m()I WaitEvent e+9x",
-        "native A.m()I SetRelAlarm x",
-        "native A.m()I SetAbsAlarm x",
-        "native A.m()I CancelAlarm x",
-        "native A.m()I GetAlarm x",
-        "device A.p()LPort; x",
-        "portal A.q()I domain x target B.s()I limit 1",
-    ] {
+    for line in UNDECLARED
+        .lines()
+        .chain(["alarm b counter c set t e\nwait t f"])
+    {
         assert_eq!(rt;
             refusal_behind(rt.alloc(), line)?,
             Some((Kind::Unknown, NEXT)),
