@@ -75,12 +75,12 @@ misfit_is files r e =
       | inl found ↦ of_all (supers_fault files) (λ i file. either_names i (super_fault files i false file.super_name file.super_at) (interface_fault files i (file.super_at + 4) file.interfaces)
           (of_kind_names i file.super_at (kind_of_super files false (class_named files file.super_name))) (interfaces_name files i (file.super_at + 4) file.interfaces)) files r found
       | inr more ↦ elim (either (first_of_files cycle_fault files) (or_else (first_of_files split_fault files) (first_of_files large_fault files)) r more) [
-          | inl found ↦ of_all (cycle_fault files) (λ i file. if_names i _ kind.SuperCycle 0) files r found
-          | inr rest ↦ elim (either (first_of_files split_fault files) (first_of_files large_fault files) r rest) [
-              | inl found ↦ of_all (split_fault files) (λ i file. splits_name files i file.methods) files r found
-              | inr found ↦ of_all (large_fault files) (λ i file. if_names i _ kind.Large 0) files r found
-            ]
+        | inl found ↦ of_all (cycle_fault files) (λ i file. if_names i _ kind.SuperCycle 0) files r found
+        | inr rest ↦ elim (either (first_of_files split_fault files) (first_of_files large_fault files) r rest) [
+          | inl found ↦ of_all (split_fault files) (λ i file. splits_name files i file.methods) files r found
+          | inr found ↦ of_all (large_fault files) (λ i file. if_names i _ kind.Large 0) files r found
         ]
+      ]
     ]
 
 fault_is : (files : List ClassInfo) (r : Refusal) → world_fault files ≡ Some r → r.file < length files
