@@ -1,0 +1,26 @@
+use Rattle.std.proofs.Common.{Bool, is_some, ap, ◌∙◌}
+use Rattle.kes_text.specs.declared.refusal.Kind.TheVariants as kind
+use Rattle.kconfig.specs.declared.config.NativeLine.{NativeLine}
+use Rattle.kbind.specs.Natives.{native_named}
+use Rattle.kbind.specs.Bound.{unless}
+use Rattle.kbind.proofs.Lines.{member_more, fault_more, all_members, all_faults}
+use Rattle.kbind.proofs.natives.bind_natives.Goals as goal
+
+pub loop-line-preserved : goal.loop-line-preserved
+loop-line-preserved c =
+    let methods = c.args.methods.now in
+    let line = c.line-item.result in
+    let blames = ap (λ (b : Bool). unless b kind.BadNative line.line) (c.is_some.ensures ∙ ap is_some c.native_named-found.ensures) in
+    record {
+      members = member_more (native_named methods) c.args.lines.now c.loop-line.line-index line c.native_named-found.result c.loop-line.members c.keep.new.members _ c.loop-line-test.true c.line-item.is
+          c.native_named-found.ensures c.in_ok-keep.ensures c.loop-line.invariant.members;
+      faults = fault_more (λ (x : NativeLine). unless (is_some (native_named methods x)) kind.BadNative x.line) c.args.lines.now c.loop-line.line-index line _ c.loop-line.faults c.blame.new.faults _ c.loop-line-test.true c.line-item.is
+          blames c.in_ok-blame.ensures c.loop-line.invariant.faults;
+    }
+
+pub returns-clause-members : goal.returns-clause-members
+returns-clause-members c = all_members (native_named c.args.methods.now) c.args.lines.now c.loop-line.line-index c.loop-line.members _ c.loop-line-test.false c.loop-line.invariant.members
+
+pub returns-clause-faults : goal.returns-clause-faults
+returns-clause-faults c =
+    all_faults (λ (x : NativeLine). unless (is_some (native_named c.args.methods.now x)) kind.BadNative x.line) c.args.lines.now c.loop-line.line-index c.loop-line.faults _ c.loop-line-test.false c.loop-line.invariant.faults
