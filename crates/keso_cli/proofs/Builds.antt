@@ -9,7 +9,7 @@ use Rattle.keso_cli.specs.declared.compile.Texts.{Texts}
 use Rattle.keso_cli.specs.declared.trouble.Trouble.{Trouble}
 use Rattle.keso_cli.specs.declared.trouble.Trouble.TheVariants.{Usage, CannotRead, Refused, CannotWrite, CannotWriteOutput, NoMemory}
 use Rattle.keso_cli.specs.BuildEnds.{BuildStops, InputSays, IsBuiltFrom, Untouched}
-use Rattle.keso_cli.specs.Refusals.{refusal_of}
+use Rattle.keso_cli.specs.Refusals.{IsAccepted, refusal_of}
 use Rattle.keso_cli.specs.FirstForm.Counts.{first_summary}
 use Rattle.keso_cli.specs.Due.{due, AreTextsOf}
 use Rattle.keso_cli.specs.FirstForm.Fits.{first_form}
@@ -20,7 +20,9 @@ use Rattle.keso_cli.specs.Left.{Written}
 use Rattle.keso_cli.specs.Seen.{FilesSeen, SinkSeen, TakesPrefix}
 use Rattle.keso_cli.specs.Stops.{CompileStops, WritesStop, PutStops}
 use Rattle.keso_cli.specs.Summary.{summary_text}
+use Rattle.keso_cli.specs.Headline.{Headline}
 use Rattle.keso_cli.proofs.Headline.All.{headline}
+use Rattle.keso_cli.proofs.Headline.Inversion.{none_is_some}
 use Rattle.keso_cli.specs.Texts.{Text, named, texts_of, written}
 
 -- the texts that the code has are those of what was built
@@ -31,42 +33,48 @@ due-is base built texts are =
     let tables = ap (λ oil. named base (program_text built.program) oil texts.map.items) are.oil in
     programs ∙ tables ∙ ap (named base (program_text built.program) (oil_text built.tables)) are.map
 
--- The configuration and the class were read.
-pub record InputIs (config class text bytes : List ℕ) (files : FilesSeen) : Type 0 where
+-- The configuration and the classes were read.
+pub record InputIs (config : List ℕ) (classes : List (List ℕ)) (text : List ℕ) (bytes : List (List ℕ)) (files : FilesSeen) : Type 0 where
   pub config_read : IfSome files.contents (λ held. get held config ≡ Some text)
-  pub class_read : IfSome files.contents (λ held. get held class ≡ Some bytes)
+  pub classes_read : IfSome files.contents (λ held. map (get held) classes ≡ map Some bytes)
 
-pub input_says : (says : List ℕ → List (List ℕ) → Type 0) (config class text bytes : List ℕ) (files : FilesSeen) → InputIs config class text bytes files
-    → says text (bytes ∷ []) → InputSays says config (class ∷ []) files
-input_says says config class text bytes files input form =
-    (text, bytes ∷ [], form, by_contents files.contents input.config_read input.class_read) where
-      by_contents : (held : Option Contents) → IfSome held (λ files. get files config ≡ Some text) → IfSome held (λ files. get files class ≡ Some bytes)
-          → IfSome held (λ files. (get files config ≡ Some text) × (map (get files) (class ∷ []) ≡ map Some (bytes ∷ [])))
+pub input_says : (says : List ℕ → List (List ℕ) → Type 0) (config : List ℕ) (classes : List (List ℕ)) (text : List ℕ) (bytes : List (List ℕ)) (files : FilesSeen)
+    → InputIs config classes text bytes files → says text bytes → InputSays says config classes files
+input_says says config classes text bytes files input form =
+    (text, bytes, form, by_contents files.contents input.config_read input.classes_read) where
+      by_contents : (held : Option Contents) → IfSome held (λ files. get files config ≡ Some text) → IfSome held (λ files. map (get files) classes ≡ map Some bytes)
+          → IfSome held (λ files. (get files config ≡ Some text) × (map (get files) classes ≡ map Some bytes))
       by_contents None c k = tt
-      by_contents (Some held) c k = (c, ap (λ o. o ∷ []) k)
+      by_contents (Some held) c k = (c, k)
+
+-- an input of the first form has one class
+headline_of : (first : FirstConfig) (second : FirstClass) (text : List ℕ) (bytes : List (List ℕ)) → first_form text bytes ≡ Some (first, second) → Headline (built_of first second) first second
+headline_of first second text [] form = absurd (none_is_some (first, second) form)
+headline_of first second text (one ∷ []) form = headline first second text one form
+headline_of first second text (one ∷ next ∷ more) form = absurd (none_is_some (first, second) form)
 
 -- what was compiled is what is written for the input
-pub built_from : (first : FirstConfig) (second : FirstClass) (config class text bytes : List ℕ) (files : FilesSeen) → InputIs config class text bytes files
-    → first_form text (bytes ∷ []) ≡ Some (first, second) → IsBuiltFrom (built_of first second) config (class ∷ []) files
-built_from first second config class text bytes files input form =
+pub built_from : (first : FirstConfig) (second : FirstClass) (config : List ℕ) (classes : List (List ℕ)) (text : List ℕ) (bytes : List (List ℕ)) (files : FilesSeen)
+    → InputIs config classes text bytes files → IsAccepted text bytes first second → IsBuiltFrom (built_of first second) config classes files
+built_from first second config classes text bytes files input form =
     record {
       first = first;
       second = second;
-      said = input_says (λ t b. first_form t b ≡ Some (first, second)) config class text bytes files input form;
+      said = input_says (λ t b. IsAccepted t b first second) config classes text bytes files input form;
       made = refl;
-      headline = headline first second text bytes form;
+      headline = headline_of first second text bytes form.of_form;
     }
 
-pub compile_stops : (trouble : Trouble) (config class base text bytes : List ℕ) (files files' : FilesSeen) (out out' : SinkSeen)
-    → InputIs config class text bytes files
-    → Untouched files files' out out' → CompileStops trouble config (class ∷ []) text (bytes ∷ []) → BuildStops trouble config (class ∷ []) base files files' out out'
-compile_stops (Refused refusal name) config class base text bytes files files' out out' input same h =
-    (h.0, input_says (λ t b. refusal_of t b ≡ Some refusal) config class text bytes files input h.1, same)
-compile_stops NoMemory config class base text bytes files files' out out' input same h = inl same
-compile_stops Usage config class base text bytes files files' out out' input same h = absurd h
-compile_stops (CannotRead name) config class base text bytes files files' out out' input same h = absurd h
-compile_stops (CannotWrite name) config class base text bytes files files' out out' input same h = absurd h
-compile_stops CannotWriteOutput config class base text bytes files files' out out' input same h = absurd h
+pub compile_stops : (trouble : Trouble) (config : List ℕ) (classes : List (List ℕ)) (base text : List ℕ) (bytes : List (List ℕ)) (files files' : FilesSeen) (out out' : SinkSeen)
+    → InputIs config classes text bytes files
+    → Untouched files files' out out' → CompileStops trouble config classes text bytes → BuildStops trouble config classes base files files' out out'
+compile_stops (Refused refusal name) config classes base text bytes files files' out out' input same h =
+    (h.0, input_says (λ t b. refusal_of t b ≡ Some refusal) config classes text bytes files input h.1, same)
+compile_stops NoMemory config classes base text bytes files files' out out' input same h = inl same
+compile_stops Usage config classes base text bytes files files' out out' input same h = absurd h
+compile_stops (CannotRead name) config classes base text bytes files files' out out' input same h = absurd h
+compile_stops (CannotWrite name) config classes base text bytes files files' out out' input same h = absurd h
+compile_stops CannotWriteOutput config classes base text bytes files files' out out' input same h = absurd h
 
 -- what was written since the input was read was written since the call began
 pub written_since : (texts : List Text) (before mid after : FilesSeen) → mid.contents ≡ before.contents → Written texts mid after → Written texts before after

@@ -3,5 +3,7 @@ pub mod Complete
 pub mod OneByOne
 pub mod Refusing
 pub mod Troubles
+pub mod WordLemmas
+pub mod Worlds
 pub mod Writes
 pub mod Headline

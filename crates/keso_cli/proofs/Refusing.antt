@@ -1,11 +1,13 @@
 -- Why an input that wasn't compiled is refused.
-use Rattle.std.proofs.Common.{◌≡◌, ℕ, List, [], ◌∷◌, Option, Some, None, Result, Ok, Err, ap, ◌∙◌}
-use Rattle.std.specs.Prelude.{unwrap_or, is_none, if◌then◌else◌}
+use Rattle.std.proofs.Common.{◌≡◌, ℕ, zero, suc, ◌+◌, ◌-◌, ◌<◌, ◌≤◌, List, [], ◌∷◌, length, map, take, drop, get_or, Option, Some, None, Result, Ok, Err, refl, sym, ap, subst, ◌∙◌, arith}
+use Rattle.std.specs.Prelude.{unwrap_or, is_none, option_map, slice_index_or, if◌then◌else◌}
 use Rattle.std.specs.Option.{option_or}
 use Rattle.std.specs.Result.{result_ok}
 use Rattle.classfile.specs.ClassFile.{ClassInfo}
 use Rattle.classfile.specs.Pool.{◌>>=◌}
 use Rattle.classfile.specs.Reading.{class_file}
+use Rattle.jworld.specs.Faults.{world_fault}
+use Rattle.kbind.specs.Bound.{bound_of}
 use Rattle.kconfig.specs.declared.config.Config.{Config}
 use Rattle.kes_text.specs.declared.refusal.Refusal.{Refusal}
 use Rattle.kes_text.specs.declared.refusal.Stop.{Stop}
@@ -17,10 +19,15 @@ use Rattle.keso_cli.specs.declared.trouble.Trouble.TheVariants.{Usage, CannotRea
 use Rattle.keso_cli.specs.Configuration.{configuration}
 use Rattle.keso_cli.specs.FirstForm.Class.{class_of}
 use Rattle.keso_cli.specs.FirstForm.Config.{config_of}
-use Rattle.keso_cli.specs.FirstForm.Fits.{if_they_fit, first_form}
-use Rattle.keso_cli.specs.Refusals.{fault_of, first_fault, later, refusal_of, name_of}
-use Rattle.keso_cli.specs.Stops.{FileStops, CompileStops}
+use Rattle.keso_cli.specs.FirstForm.Fits.{if_they_fit, only_class, first_form}
+use Rattle.keso_cli.specs.Refusals.{IsAccepted, fault_of, first_fault, classes_in, of_class_file, world_refusal, binding_refusal, later, refusal_of, name_of}
+use Rattle.keso_cli.specs.Stops.{FileStops, ClassesStop, CompileStops}
+use Rattle.keso_cli.specs.Taken.{IsTaken}
 use Rattle.keso_cli.proofs.Headline.Inversion.{none_is_some}
+
+pub never_fits : (config : Option FirstConfig) → if_they_fit config None ≡ None
+never_fits None = refl
+never_fits (Some config) = refl
 
 -- a fault has its file's number
 file_is : {A : Type 0} (number : ℕ) (read : Result A Stop) (r : Refusal) → fault_of number read ≡ Some r → number ≡ r.file
@@ -28,45 +35,161 @@ file_is number (Ok read) r e = absurd (none_is_some r e)
 file_is number (Err stop.NoMemory) r e = absurd (none_is_some r e)
 file_is number (Err (stop.Refused fault)) r e = ap (λ o. (unwrap_or o r).file) e
 
-abbrev else_later : List ℕ → List (List ℕ) → Option Refusal → Option Refusal
-else_later text classes fault = option_or fault (if is_none (first_form text classes) then Some later else None)
+-- why an input is refused whose classes are none, or not of the first form
+abbrev unless_form : Option (FirstConfig × FirstClass) → Option Refusal
+unless_form form = if is_none form then Some later else None
 
-config_refused : (text : List ℕ) (classes : List (List ℕ)) (r : Refusal) → fault_of 0 (configuration text) ≡ Some r → refusal_of text classes ≡ Some r
+abbrev in_world : Result Config Stop → List ClassInfo → Option (FirstConfig × FirstClass) → Option Refusal
+in_world read classes form = option_or (world_refusal classes) (option_or (result_ok read >>= binding_refusal classes) (unless_form form))
+
+config_refused : (text : List ℕ) (files : List (List ℕ)) (r : Refusal) → fault_of 0 (configuration text) ≡ Some r → refusal_of text files ≡ Some r
 unfolding refusal_of
-config_refused text classes r e = ap (λ fault. else_later text classes (option_or fault (first_fault 1 classes))) e
+config_refused text files r e =
+    ap (λ fault. option_or fault (option_or (first_fault 1 files) (in_world (configuration text) (classes_in files) (first_form text files)))) e
 
-class_refused : (text bytes : List ℕ) (config : Config) (r : Refusal) → configuration text ≡ Ok config → fault_of 1 (class_file bytes) ≡ Some r → refusal_of text (bytes ∷ []) ≡ Some r
+class_refused : (text : List ℕ) (files : List (List ℕ)) (config : Config) (r : Refusal) → configuration text ≡ Ok config → first_fault 1 files ≡ Some r → refusal_of text files ≡ Some r
 unfolding refusal_of
-class_refused text bytes config r ok e =
-    ap (λ read. else_later text (bytes ∷ []) (option_or (fault_of 0 read) (first_fault 1 (bytes ∷ [])))) ok
-    ∙ ap (λ fault. else_later text (bytes ∷ []) (option_or fault None)) e
+class_refused text files config r ok e =
+    ap (λ read. option_or (fault_of 0 read) (option_or (first_fault 1 files) (in_world read (classes_in files) (first_form text files)))) ok
+    ∙ ap (λ fault. option_or fault (in_world (Ok config) (classes_in files) (first_form text files))) e
 
-pub config_stops : (trouble : Trouble) (config class text bytes : List ℕ) → FileStops trouble 0 config (configuration text) → CompileStops trouble config (class ∷ []) text (bytes ∷ [])
-config_stops (Refused refusal name) config class text bytes h =
-    (h.0 ∙ ap (name_of config (class ∷ [])) (file_is 0 (configuration text) refusal h.1), config_refused text (bytes ∷ []) refusal h.1)
-config_stops NoMemory config class text bytes h = tt
-config_stops Usage config class text bytes h = absurd h
-config_stops (CannotRead name) config class text bytes h = absurd h
-config_stops (CannotWrite name) config class text bytes h = absurd h
-config_stops CannotWriteOutput config class text bytes h = absurd h
+-- a fault of the file of this number and name stops the build where the input is refused for it
+file_stops : {A : Type 0} (trouble : Trouble) (config : List ℕ) (classes : List (List ℕ)) (text : List ℕ) (files : List (List ℕ)) (read : Result A Stop)
+    → ((r : Refusal) → fault_of 0 read ≡ Some r → refusal_of text files ≡ Some r) → FileStops trouble 0 config read → CompileStops trouble config classes text files
+file_stops (Refused refusal name) config classes text files read refused h =
+    (h.0 ∙ ap (name_of config classes) (file_is 0 read refusal h.1), refused refusal h.1)
+file_stops NoMemory config classes text files read refused h = tt
+file_stops Usage config classes text files read refused h = absurd h
+file_stops (CannotRead name) config classes text files read refused h = absurd h
+file_stops (CannotWrite name) config classes text files read refused h = absurd h
+file_stops CannotWriteOutput config classes text files read refused h = absurd h
 
-pub class_stops : (trouble : Trouble) (config class text bytes : List ℕ) (read : Config) → configuration text ≡ Ok read → FileStops trouble 1 class (class_file bytes) → CompileStops trouble config (class ∷ []) text (bytes ∷ [])
-class_stops (Refused refusal name) config class text bytes read ok h =
-    (h.0 ∙ ap (name_of config (class ∷ [])) (file_is 1 (class_file bytes) refusal h.1), class_refused text bytes read refusal ok h.1)
-class_stops NoMemory config class text bytes read ok h = tt
-class_stops Usage config class text bytes read ok h = absurd h
-class_stops (CannotRead name) config class text bytes read ok h = absurd h
-class_stops (CannotWrite name) config class text bytes read ok h = absurd h
-class_stops CannotWriteOutput config class text bytes read ok h = absurd h
+pub config_stops : (trouble : Trouble) (config : List ℕ) (classes : List (List ℕ)) (text : List ℕ) (files : List (List ℕ)) → FileStops trouble 0 config (configuration text) → CompileStops trouble config classes text files
+config_stops trouble config classes text files h = file_stops trouble config classes text files (configuration text) (config_refused text files) h
 
--- what is read and isn't of the first form
-pub comes_later : (text bytes : List ℕ) (config : Config) (class : ClassInfo) → configuration text ≡ Ok config → class_file bytes ≡ Ok class
-    → if_they_fit (config_of config) (class_of class) ≡ None → refusal_of text (bytes ∷ []) ≡ Some later
+-- the class files' names stand behind the configuration's
+named_behind : (config : List ℕ) (classes : List (List ℕ)) (number : ℕ) → 1 ≤ number → slice_index_or classes (number - 1) [] ≡ name_of config classes number
+named_behind config classes (suc number) least = ap (λ k. slice_index_or classes k []) (omega arith)
+named_behind config classes zero least = absurd (omega (least, arith))
+
+-- a fault of a class file stops the build where the input is refused for it
+class_file_stops : (trouble : Trouble) (config : List ℕ) (classes : List (List ℕ)) (text : List ℕ) (files : List (List ℕ)) (fault : Option Refusal)
+    → ((r : Refusal) → fault ≡ Some r → refusal_of text files ≡ Some r) → ClassesStop trouble classes fault → CompileStops trouble config classes text files
+class_file_stops (Refused refusal name) config classes text files fault refused h =
+    (h.1 ∙ named_behind config classes refusal.file h.2, refused refusal h.0)
+class_file_stops NoMemory config classes text files fault refused h = tt
+class_file_stops Usage config classes text files fault refused h = absurd h
+class_file_stops (CannotRead name) config classes text files fault refused h = absurd h
+class_file_stops (CannotWrite name) config classes text files fault refused h = absurd h
+class_file_stops CannotWriteOutput config classes text files fault refused h = absurd h
+
+pub classes_stop : (trouble : Trouble) (config : List ℕ) (classes : List (List ℕ)) (text : List ℕ) (files : List (List ℕ)) (read : Config) → configuration text ≡ Ok read
+    → ClassesStop trouble classes (first_fault 1 files) → CompileStops trouble config classes text files
+classes_stop trouble config classes text files read ok h =
+    class_file_stops trouble config classes text files (first_fault 1 files) (λ r e. class_refused text files read r ok e) h
+
+-- the first class file that isn't read, behind those that are
+at_fault : {W : Type 0} (bytes : W → List ℕ) (number i : ℕ) (files : List W) (classes : List ClassInfo) (item : W) (r : Refusal) → map class_file (map bytes (take i files)) ≡ map Ok classes
+    → i < length files → item ≡ get_or files i item → fault_of (number + i) (class_file (bytes item)) ≡ Some r → first_fault number (map bytes files) ≡ Some r
+at_fault bytes number i [] classes item r read lt is e = absurd (omega (lt, arith))
+at_fault bytes number zero (file ∷ files) classes item r read lt is e =
+    let here : fault_of number (class_file (bytes file)) ≡ Some r = ap (λ f. fault_of number (class_file (bytes f))) (sym is) ∙ subst (λ n. fault_of n (class_file (bytes item)) ≡ Some r) (omega arith) e in
+    ap (λ fault. option_or fault (first_fault (number + 1) (map bytes files))) here
+at_fault bytes number (suc i) (file ∷ files) [] item r read lt is e = absurd (let n = ap length read in omega (arith, n))
+at_fault bytes number (suc i) (file ∷ files) (class ∷ classes) item r read lt is e =
+    let one : class_file (bytes file) ≡ Ok class = ap (λ l. slice_index_or l 0 (Ok class)) read in
+    ap (λ read. option_or (fault_of number read) (first_fault (number + 1) (map bytes files))) one
+    ∙ at_fault bytes (number + 1) i files classes item r (ap (λ l. drop 1 l) read) (omega (lt, arith)) is (subst (λ n. fault_of n (class_file (bytes item)) ≡ Some r) (omega arith) e)
+
+pub class_stops : {W : Type 0} (bytes : W → List ℕ) (names : List (List ℕ)) (files : List W) (i : ℕ) (classes : List ClassInfo) (item : W) (trouble : Trouble) → map class_file (map bytes (take i files)) ≡ map Ok classes
+    → i < length files → item ≡ get_or files i item → FileStops trouble (i + 1) (slice_index_or names i []) (class_file (bytes item)) → ClassesStop trouble names (first_fault 1 (map bytes files))
+class_stops bytes names files i classes item (Refused refusal name) read lt is h =
+    let file : i + 1 ≡ refusal.file = file_is (i + 1) (class_file (bytes item)) refusal h.1 in (
+      at_fault bytes 1 i files classes item refusal read lt is (subst (λ n. fault_of n (class_file (bytes item)) ≡ Some refusal) (omega arith) h.1),
+      h.0 ∙ ap (λ k. slice_index_or names k []) (omega (file, arith)),
+      omega (file, arith),
+    )
+class_stops bytes names files i classes item NoMemory read lt is h = tt
+class_stops bytes names files i classes item Usage read lt is h = absurd h
+class_stops bytes names files i classes item (CannotRead name) read lt is h = absurd h
+class_stops bytes names files i classes item (CannotWrite name) read lt is h = absurd h
+class_stops bytes names files i classes item CannotWriteOutput read lt is h = absurd h
+
+-- class files that are all read have no fault
+all_read : (number : ℕ) (files : List (List ℕ)) (classes : List ClassInfo) → map class_file files ≡ map Ok classes → first_fault number files ≡ None
+all_read number [] classes e = refl
+all_read number (file ∷ files) [] e = absurd (let n = ap length e in omega (arith, n))
+all_read number (file ∷ files) (class ∷ classes) e =
+    let one : class_file file ≡ Ok class = ap (λ l. slice_index_or l 0 (Ok class)) e in
+    ap (λ read. option_or (fault_of number read) (first_fault (number + 1) files)) one ∙ all_read (number + 1) files classes (ap (λ l. drop 1 l) e)
+
+-- of the first form they are where there is one of them, and it is
+pub form_is : (text : List ℕ) (files : List (List ℕ)) (config : Config) (classes : List ClassInfo) → configuration text ≡ Ok config → map class_file files ≡ map Ok classes
+    → first_form text files ≡ if_they_fit (config_of config) (only_class classes)
+form_is text [] config [] ok e = sym (never_fits (config_of config))
+form_is text [] config (class ∷ classes) ok e = absurd (let n = ap length e in omega (arith, n))
+form_is text (file ∷ files) config [] ok e = absurd (let n = ap length e in omega (arith, n))
+form_is text (file ∷ []) config (class ∷ []) ok e =
+    ap (λ read. if_they_fit (result_ok read >>= config_of) (result_ok (class_file file) >>= class_of)) ok
+    ∙ ap (λ read. if_they_fit (config_of config) (result_ok read >>= class_of)) (ap (λ l. slice_index_or l 0 (Ok class)) e)
+form_is text (file ∷ []) config (class ∷ next ∷ classes) ok e = absurd (let n = ap length e in omega (arith, n))
+form_is text (file ∷ next ∷ files) config (class ∷ []) ok e = absurd (let n = ap length e in omega (arith, n))
+form_is text (file ∷ next ∷ files) config (class ∷ also ∷ classes) ok e = sym (never_fits (config_of config))
+
+-- the classes in files that are all read
+abbrev classes_behind : Option ClassInfo → List ClassInfo → List ClassInfo
+classes_behind None more = more
+classes_behind (Some class) more = class ∷ more
+
+are_read : (files : List (List ℕ)) (classes : List ClassInfo) → map class_file files ≡ map Ok classes → classes_in files ≡ classes
+are_read [] [] e = refl
+are_read [] (class ∷ classes) e = absurd (let n = ap length e in omega (arith, n))
+are_read (file ∷ files) [] e = absurd (let n = ap length e in omega (arith, n))
+are_read (file ∷ files) (class ∷ classes) e =
+    let one : class_file file ≡ Ok class = ap (λ l. slice_index_or l 0 (Ok class)) e in
+    ap (λ read. classes_behind (result_ok read) (classes_in files)) one ∙ ap (λ l. class ∷ l) (are_read files classes (ap (λ l. drop 1 l) e))
+
+-- why an input is refused that is read
+read_refused : (text : List ℕ) (files : List (List ℕ)) (config : Config) (classes : List ClassInfo) → configuration text ≡ Ok config → map class_file files ≡ map Ok classes
+    → refusal_of text files ≡ in_world (Ok config) classes (if_they_fit (config_of config) (only_class classes))
 unfolding refusal_of
-comes_later text bytes config class config_is class_is none =
-    let form : first_form text (bytes ∷ []) ≡ None =
-    ap (λ read. if_they_fit (result_ok read >>= config_of) (result_ok (class_file bytes) >>= class_of)) config_is
-    ∙ ap (λ read. if_they_fit (config_of config) (result_ok read >>= class_of)) class_is ∙ none in
-    ap (λ read. else_later text (bytes ∷ []) (option_or (fault_of 0 read) (first_fault 1 (bytes ∷ [])))) config_is
-    ∙ ap (λ read. else_later text (bytes ∷ []) (option_or (fault_of 1 read) None)) class_is
-    ∙ ap (λ (form : Option (FirstConfig × FirstClass)). if is_none form then Some later else None) form
+read_refused text files config classes ok e =
+    ap (λ read. option_or (fault_of 0 read) (option_or (first_fault 1 files) (in_world read (classes_in files) (first_form text files)))) ok
+    ∙ ap (λ fault. option_or fault (in_world (Ok config) (classes_in files) (first_form text files))) (all_read 1 files classes e)
+    ∙ ap (λ cs. in_world (Ok config) cs (first_form text files)) (are_read files classes e)
+    ∙ ap (in_world (Ok config) classes) (form_is text files config classes ok e)
+
+-- classes that are no world
+pub world_stops : (trouble : Trouble) (config : List ℕ) (names : List (List ℕ)) (text : List ℕ) (files : List (List ℕ)) (read : Config) (classes : List ClassInfo)
+    → configuration text ≡ Ok read → map class_file files ≡ map Ok classes → ClassesStop trouble names (world_refusal classes) → CompileStops trouble config names text files
+world_stops trouble config names text files read classes ok e h =
+    class_file_stops trouble config names text files (world_refusal classes)
+    (λ r is. read_refused text files read classes ok e ∙ ap (λ fault. option_or fault (option_or (binding_refusal classes read) (unless_form (if_they_fit (config_of read) (only_class classes))))) is) h
+
+-- a configuration that can't be bound to their world
+pub binding_stops : (trouble : Trouble) (config : List ℕ) (names : List (List ℕ)) (text : List ℕ) (files : List (List ℕ)) (read : Config) (classes : List ClassInfo)
+    → configuration text ≡ Ok read → map class_file files ≡ map Ok classes → world_fault classes ≡ None → FileStops trouble 0 config (bound_of classes read) → CompileStops trouble config names text files
+binding_stops trouble config names text files read classes ok e world h =
+    file_stops trouble config names text files (bound_of classes read)
+    (λ r is. read_refused text files read classes ok e
+    ∙ ap (λ fault. option_or (option_map of_class_file fault) (option_or (binding_refusal classes read) (unless_form (if_they_fit (config_of read) (only_class classes))))) world
+    ∙ ap (λ fault. option_or fault (unless_form (if_they_fit (config_of read) (only_class classes)))) is) h
+
+-- why an input that is taken is refused: it isn't of the first form
+taken_refused : (text : List ℕ) (files : List (List ℕ)) (config : Config) (classes : List ClassInfo) → IsTaken text files config classes
+    → refusal_of text files ≡ unless_form (if_they_fit (config_of config) (only_class classes))
+taken_refused text files config classes taken =
+    read_refused text files config classes taken.config_is taken.classes_are
+    ∙ ap (λ fault. option_or (option_map of_class_file fault) (option_or (binding_refusal classes config) (unless_form (if_they_fit (config_of config) (only_class classes))))) taken.are_world
+    ∙ ap (λ fault. option_or fault (unless_form (if_they_fit (config_of config) (only_class classes)))) taken.is_bound
+
+pub comes_later : (text : List ℕ) (files : List (List ℕ)) (config : Config) (classes : List ClassInfo) → IsTaken text files config classes
+    → if_they_fit (config_of config) (only_class classes) ≡ None → refusal_of text files ≡ Some later
+comes_later text files config classes taken none = taken_refused text files config classes taken ∙ ap unless_form none
+
+pub is_accepted : (text : List ℕ) (files : List (List ℕ)) (config : Config) (classes : List ClassInfo) (first : FirstConfig) (second : FirstClass) → IsTaken text files config classes
+    → if_they_fit (config_of config) (only_class classes) ≡ Some (first, second) → IsAccepted text files first second
+is_accepted text files config classes first second taken form = record {
+  of_form = form_is text files config classes taken.config_is taken.classes_are ∙ form;
+  faultless = taken_refused text files config classes taken ∙ ap unless_form form;
+}

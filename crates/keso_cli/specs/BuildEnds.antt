@@ -14,8 +14,7 @@ use Rattle.keso_cli.specs.Left.{CannotBeRead, Written, WrittenInPart, WriteFaile
 use Rattle.keso_cli.specs.declared.config.FirstConfig.{FirstConfig}
 use Rattle.keso_cli.specs.declared.first_class.FirstClass.{FirstClass}
 use Rattle.keso_cli.specs.FirstForm.Counts.{first_summary}
-use Rattle.keso_cli.specs.FirstForm.Fits.{first_form}
-use Rattle.keso_cli.specs.Refusals.{refusal_of, name_of}
+use Rattle.keso_cli.specs.Refusals.{IsAccepted, refusal_of, name_of}
 use Rattle.keso_cli.specs.FirstForm.Program.{built_of}
 
 -- The files are as before, and the output has taken nothing.
@@ -28,9 +27,9 @@ abbrev pub InputSays : (List ℕ → List (List ℕ) → Type 0) → List ℕ �
 InputSays says config classes files = (text : List ℕ) × (bytes : List (List ℕ)) × says text bytes
     × IfSome files.contents (λ held. (get held config ≡ Some text) × (map (get held) classes ≡ map Some bytes))
 
--- They are of the first form.
+-- They are of the first form, and aren't refused.
 abbrev pub InputIsOf : FirstConfig → FirstClass → List ℕ → List (List ℕ) → FilesSeen → Type 0
-InputIsOf first second = InputSays (λ text bytes. first_form text bytes ≡ Some (first, second))
+InputIsOf first second = InputSays (λ text bytes. IsAccepted text bytes first second)
 
 -- They are refused.
 abbrev pub InputIsRefused : Refusal → List ℕ → List (List ℕ) → FilesSeen → Type 0

@@ -1,17 +1,17 @@
--- Completeness: a build of an input of the first form that can be read, in which no count of faults rose, is done, or
--- memory was wanting.
-use Rattle.std.specs.Prelude.{◌≡◌, ◌≢◌, ◌⊎◌, ℕ, List, Option, Some, None, map, ⊤}
+-- Completeness: a build of an input that can be read and for which there is no refusal, in which no count of faults rose, is
+-- done, or memory was wanting.
+use Rattle.std.specs.Prelude.{◌≡◌, ◌⊎◌, ℕ, List, Option, Some, None, map, ⊤}
 use Rattle.std.specs.FinMap.{get}
 use Rattle.kes_outside.specs.Contents.{Contents}
 use Rattle.kes_outside.specs.Count.{Rose}
 use Rattle.keso_cli.specs.declared.status.Status.{Status}
 use Rattle.keso_cli.specs.declared.status.Status.TheVariants.{Ok, NoMemory}
-use Rattle.keso_cli.specs.FirstForm.Fits.{first_form}
+use Rattle.keso_cli.specs.Refusals.{refusal_of}
 use Rattle.keso_cli.specs.Request.{Request, Build}
 use Rattle.keso_cli.specs.Seen.{FilesSeen}
 use Rattle.keso_cli.specs.Stands.{Outside}
 
--- It is told that the named files hold a configuration and classes of the first form.
+-- It is told that the named files hold a configuration and classes for which there is no refusal.
 pub record IsGiven (config : List ℕ) (classes : List (List ℕ)) (files : FilesSeen) : Type 0 where
   pub held : Contents
   pub told : files.contents ≡ Some held
@@ -19,7 +19,7 @@ pub record IsGiven (config : List ℕ) (classes : List (List ℕ)) (files : File
   pub bytes : List (List ℕ)
   pub config_is : get held config ≡ Some text
   pub classes_are : map (get held) classes ≡ map Some bytes
-  pub of_form : first_form text bytes ≢ None
+  pub accepted : refusal_of text bytes ≡ None
 
 pub record NoneRose (before after : Outside) : Type 0 where
   pub files : Rose before.files.faults after.files.faults → ⊥

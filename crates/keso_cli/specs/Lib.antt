@@ -15,5 +15,6 @@ pub mod Seen
 pub mod Stands
 pub mod Stops
 pub mod Summary
+pub mod Taken
 pub mod Tells
 pub mod Texts

@@ -1,5 +1,6 @@
 -- The words of the program's commands.
-use Rattle.std.specs.Prelude.{ℕ, Bool, false, not, nat_eq, ◌&&◌, List, [], ◌∷◌, codes, Option, Some, None, if◌then◌else◌}
+use Rattle.std.specs.Prelude.{ℕ, ◌-◌, Bool, false, not, nat_eq, nat_le, ◌&&◌, List, [], ◌∷◌, length, take, drop, codes, Option, Some, None, if◌then◌else◌}
+use Rattle.std.specs.List.{list_all}
 use Rattle.std.specs.Str.{bytes_eq}
 
 -- what the words of a command ask for
@@ -11,16 +12,24 @@ abbrev pub is_name : List ℕ → Bool
 is_name [] = false
 is_name (first ∷ _) = not (nat_eq first 45)
 
--- build CONFIG CLASS -o BASE
-abbrev pub is_build : List ℕ → List ℕ → List ℕ → List ℕ → List ℕ → Bool
-is_build build config class option base =
-    bytes_eq build (codes "build") && is_name config && is_name class && bytes_eq option (codes "-o") && is_name base
+-- the most class files that a build takes
+abbrev pub most_classes : ℕ
+most_classes = 2048
 
-abbrev pub request_of_five : List ℕ → List ℕ → List ℕ → List ℕ → List ℕ → Option Request
-request_of_five build config class option base =
-    if is_build build config class option base then Some (Build config (class ∷ []) base) else None
+abbrev pub are_classes : List (List ℕ) → Bool
+are_classes classes = nat_le 1 (length classes) && nat_le (length classes) most_classes && list_all is_name classes
 
--- what the words ask for, or None where they are no command
+-- build CONFIG CLASS.. -o BASE
+abbrev pub is_build : List ℕ → List ℕ → List (List ℕ) → List ℕ → List ℕ → Bool
+is_build build config classes option base =
+    bytes_eq build (codes "build") && is_name config && are_classes classes && bytes_eq option (codes "-o") && is_name base
+
+-- what stands behind the classes has to be -o BASE
+abbrev pub request_ending : List ℕ → List ℕ → List (List ℕ) → List (List ℕ) → Option Request
+request_ending build config classes (option ∷ base ∷ []) = if is_build build config classes option base then Some (Build config classes base) else None
+request_ending build config classes _ = None
+
+-- what the words ask for, or None where they are no command: all words between CONFIG and the last two are classes
 abbrev pub request_of : List (List ℕ) → Option Request
-request_of (build ∷ config ∷ class ∷ option ∷ base ∷ []) = request_of_five build config class option base
+request_of (build ∷ config ∷ rest) = request_ending build config (take (length rest - 2) rest) (drop (length rest - 2) rest)
 request_of _ = None

@@ -31,8 +31,7 @@ pub record OkStands (config : List ℕ) (classes : List (List ℕ)) (base : List
   pub build : BuildIsDone config classes base before.files after.files before.out after.out
   pub silent : after.err.taken ≡ before.err.taken
 
--- Refused: the configuration's text has a fault, or a class file, and this is the first, or none has one and the input isn't
--- of the first form.
+-- Refused: this is why the input isn't compiled.
 pub record RefusedStands (config : List ℕ) (classes : List (List ℕ)) (before after : Outside) : Type 0 where
   pub refusal : Refusal
   pub cause : InputIsRefused refusal config classes before.files

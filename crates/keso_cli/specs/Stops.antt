@@ -1,7 +1,8 @@
 -- Where the steps of a build stop.
-use Rattle.std.specs.Prelude.{◌≡◌, ℕ, List, Some, Result, IfSome, IsSomeAnd, string_bytes}
+use Rattle.std.specs.Prelude.{◌≡◌, ℕ, ◌-◌, ◌≤◌, List, [], Contains, slice_index_or, Option, Some, Result, IfSome, IsSomeAnd, string_bytes}
 use Rattle.kes_outside.specs.Contents.{OthersStay}
 use Rattle.kes_outside.specs.Count.{Rose}
+use Rattle.kes_text.specs.declared.refusal.Refusal.{Refusal}
 use Rattle.kes_text.specs.declared.refusal.Stop.{Stop}
 use Rattle.keso_cli.specs.declared.trouble.Trouble.{Trouble}
 use Rattle.keso_cli.specs.declared.trouble.Trouble.TheVariants.{CannotRead, Refused, CannotWrite, CannotWriteOutput, NoMemory}
@@ -16,11 +17,24 @@ ReadStops (CannotRead read) name before after = (read.now ≡ name) × CannotBeR
 ReadStops NoMemory name before after = Unit {0}
 ReadStops _ name before after = ⊥
 
+-- Not all of the files of these names are read.
+abbrev pub ReadsStop : Trouble → List (List ℕ) → FilesSeen → FilesSeen → Type 0
+ReadsStop (CannotRead read) names before after = Contains names read.now × CannotBeRead read.now before after
+ReadsStop NoMemory names before after = Unit {0}
+ReadsStop _ names before after = ⊥
+
 -- The file of this number and name has a fault.
 abbrev pub FileStops : {A : Type 0} → Trouble → ℕ → List ℕ → Result A Stop → Type 0
 FileStops (Refused refusal refused) number name read = (refused.now ≡ name) × (fault_of number read ≡ Some refusal)
 FileStops NoMemory number name read = Unit {0}
 FileStops _ number name read = ⊥
+
+-- One of the class files has this fault; the first class file is number 1, and has the first of the names.
+abbrev pub ClassesStop : Trouble → List (List ℕ) → Option Refusal → Type 0
+ClassesStop (Refused refusal refused) names fault =
+    (fault ≡ Some refusal) × (refused.now ≡ slice_index_or names (refusal.file - 1) []) × (1 ≤ refusal.file)
+ClassesStop NoMemory names fault = Unit {0}
+ClassesStop _ names fault = ⊥
 
 -- The input of these names, a configuration's text and the bytes of classes, isn't compiled.
 abbrev pub CompileStops : Trouble → List ℕ → List (List ℕ) → List ℕ → List (List ℕ) → Type 0

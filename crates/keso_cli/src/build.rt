@@ -1,14 +1,16 @@
-ghost use Rattle.std.specs.Prelude.{◌≡◌, ℕ, ◌≤◌, ◌∷◌, [], ◌++◌, Some, IfOk, IfErr, IfSome, OnOk, codes, string_bytes};
+ghost use Rattle.std.specs.Prelude.{◌≡◌, ◌≤◌, ◌++◌, length, map, Some, IfOk, IfErr, IfSome, OnOk, string_bytes};
 ghost use Rattle.std.specs.FinMap.{get};
 ghost use Rattle.keso_cli.specs.Due.{due};
 ghost use Rattle.keso_cli.specs.BuildEnds.{BuildIsDone, BuildStops};
 ghost use Rattle.keso_cli.specs.FirstForm.Counts.{first_summary};
 ghost use Rattle.keso_cli.specs.Left.{Writes, Written};
+ghost use Rattle.keso_cli.specs.Request.{most_classes};
 ghost use Rattle.keso_cli.specs.Seen.{files_seen, sink_seen, Takes};
-ghost use Rattle.keso_cli.specs.Stops.{ReadStops, WriteStops, WritesStop, PutStops};
+ghost use Rattle.keso_cli.specs.Stops.{ReadStops, ReadsStop, WriteStops, WritesStop, PutStops};
 ghost use Rattle.keso_cli.specs.Summary.{summary_text};
 
 use crate::compile::{Texts, compile};
+use crate::inputs::FileBytes;
 use crate::summary::{FIRST_SUMMARY, summary_lines};
 use crate::trouble::Trouble;
 use crate::words::Build;
@@ -29,6 +31,26 @@ fn read<'a, F: Files>(alloc: Global, files: &mut F, name: &'a str) -> Result<Vec
         Err(ReadStop::Missing | ReadStop::Failed) => Err(Trouble::CannotRead(name)),
         Err(ReadStop::NoMemory) => Err(Trouble::NoMemory),
     }
+}
+
+/// The bytes of the named files, in their order.
+fn read_all<'a, F: Files>(
+    alloc: Global,
+    files: &mut F,
+    names: &'a [String],
+) -> Result<FileBytes, Trouble<'a>>
+    ensures ok { IfOk result (λ all. IfSome (F.contents files.old) (λ held. map (get held) (map string_bytes names.now) ≡ map Some all)) }
+    ensures many { IfOk result (λ all. length all ≡ length names.now) }
+    ensures stays { F.contents files.new ≡ F.contents files.old }
+    ensures count { F.faults files.old ≤ F.faults files.new }
+    ensures stop { IfErr result (λ ending. ReadsStop ending (map string_bytes names.now)
+        (files_seen F.contents F.faults files.old) (files_seen F.contents F.faults files.new)) }
+{
+    let mut all = FileBytes::new(alloc);
+    for name in names {
+        all.push(read(alloc, files, name.as_str())?)?;
+    }
+    Ok(all)
 }
 
 /// The name of one of a build's files.
@@ -102,16 +124,17 @@ pub fn build<'a, F: Files, O: Sink>(
     files: &mut F,
     out: &mut O,
 ) -> Result<(), Trouble<'a>>
-    ensures ok { OnOk result (BuildIsDone names.entry.config.now (names.entry.class.now ∷ []) names.entry.base.now
+    requires { length names.classes.now ≤ most_classes }
+    ensures ok { OnOk result (BuildIsDone names.entry.config.now (map string_bytes names.entry.classes.now) names.entry.base.now
         (files_seen F.contents F.faults files.old) (files_seen F.contents F.faults files.new)
         (sink_seen O.taken O.faults out.old) (sink_seen O.taken O.faults out.new)) }
-    ensures stop { IfErr result (λ trouble. BuildStops trouble names.entry.config.now (names.entry.class.now ∷ []) names.entry.base.now
+    ensures stop { IfErr result (λ trouble. BuildStops trouble names.entry.config.now (map string_bytes names.entry.classes.now) names.entry.base.now
         (files_seen F.contents F.faults files.old) (files_seen F.contents F.faults files.new)
         (sink_seen O.taken O.faults out.old) (sink_seen O.taken O.faults out.new)) }
 {
     let config = read(alloc, files, names.config)?;
-    let class = read(alloc, files, names.class)?;
-    let texts = compile(alloc, names, config.as_slice(), class.as_slice())?;
+    let classes = read_all(alloc, files, names.classes)?;
+    let texts = compile(alloc, names, config.as_slice(), classes.as_slice())?;
     write_texts(alloc, files, names.base, &texts)?;
     put_summary(alloc, out)
 }

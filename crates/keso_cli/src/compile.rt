@@ -1,29 +1,25 @@
-ghost use Rattle.std.specs.Prelude.{◌≡◌, ◌∷◌, [], Some, Ok, IfOk, IfErr};
+ghost use Rattle.std.specs.Prelude.{◌≡◌, ◌≤◌, length, map, string_bytes, IfOk, IfErr};
 ghost use Rattle.std.specs.Option.{option_map};
 ghost use Rattle.keso_cli.specs.declared.config.FirstConfig.{FirstConfig};
 ghost use Rattle.keso_cli.specs.declared.first_class.FirstClass.{FirstClass};
 ghost use Rattle.keso_cli.specs.Due.{AreTextsOf};
-ghost use Rattle.classfile.specs.ClassFile.{ClassInfo};
-ghost use Rattle.classfile.specs.Reading.{class_file};
-ghost use Rattle.kconfig.specs.declared.config.Config.{Config};
-ghost use Rattle.keso_cli.specs.Configuration.{configuration};
-ghost use Rattle.keso_cli.specs.FirstForm.Class.{class_of};
-ghost use Rattle.keso_cli.specs.FirstForm.Config.{config_of};
-ghost use Rattle.keso_cli.specs.FirstForm.Fits.{fits, has_dot, if_they_fit, first_form};
+ghost use Rattle.keso_cli.specs.FirstForm.Fits.{fits, has_dot, if_they_fit, only_class};
 ghost use Rattle.keso_cli.specs.FirstForm.Program.{built_of};
+ghost use Rattle.keso_cli.specs.Refusals.{IsAccepted};
+ghost use Rattle.keso_cli.specs.Request.{most_classes};
 ghost use Rattle.keso_cli.specs.Said.{said};
-ghost use Rattle.keso_cli.specs.Stops.{FileStops, CompileStops};
+ghost use Rattle.keso_cli.specs.Stops.{CompileStops};
 
 use crate::built::Built;
 use crate::config::{FirstConfig, first_config};
 use crate::emit::{emit, shown_method};
 use crate::first_class::{FirstClass, first_class};
+use crate::reading::read_input;
 use crate::trouble::Trouble;
 use crate::words::Build;
 use c_out::print_c;
-use classfile::read_class;
-use kconfig::read_config;
-use kes_text::{Kind, NoMemory, Refusal, Stop};
+use classfile::Class;
+use kes_text::{Kind, NoMemory, Refusal};
 use mapfile::print_map;
 use oil_out::print_oil;
 use std::alloc::Global;
@@ -72,36 +68,13 @@ fn fits(alloc: Global, config: &FirstConfig, class: &FirstClass) -> Result<bool,
     )
 }
 
-/// The configuration of the first form that the text of this name is, or None where it is another.
-#[tactic(auto, unfolding(crate::specs::Configuration::configuration))]
-fn config_in<'a>(
-    alloc: Global,
-    name: &'a str,
-    text: &[u8],
-) -> Result<Option<FirstConfig>, Trouble<'a>>
-    ensures ok { IfOk result (λ found. (config : Config) × (configuration text.now ≡ Ok config) × (config_of config ≡ found)) }
-    ensures stop { IfErr result (λ trouble. FileStops trouble 0 name.now (configuration text.now)) }
+/// The class of the first form that the class files are: there is one, and it is of this form.
+fn only_class(alloc: Global, classes: &[Class<'_>]) -> Result<Option<FirstClass>, NoMemory>
+    ensures { IfOk result (λ found. only_class classes.now ≡ found) }
 {
-    match read_config(alloc, text) {
-        Ok(config) => Ok(first_config(alloc, &config)?),
-        Err(Stop::Refused(fault)) => Err(Trouble::Refused(Refusal { file: 0, ..fault }, name)),
-        Err(Stop::NoMemory) => Err(Trouble::NoMemory),
-    }
-}
-
-/// The class of the first form that the class file of this name is, or None where it is another.
-fn class_in<'a>(
-    alloc: Global,
-    name: &'a str,
-    bytes: &[u8],
-) -> Result<Option<FirstClass>, Trouble<'a>>
-    ensures ok { IfOk result (λ found. (class : ClassInfo) × (class_file bytes.now ≡ Ok class) × (class_of class ≡ found)) }
-    ensures stop { IfErr result (λ trouble. FileStops trouble 1 name.now (class_file bytes.now)) }
-{
-    match read_class(alloc, bytes) {
-        Ok(class) => Ok(first_class(alloc, &class)?),
-        Err(Stop::Refused(fault)) => Err(Trouble::Refused(Refusal { file: 1, ..fault }, name)),
-        Err(Stop::NoMemory) => Err(Trouble::NoMemory),
+    match classes {
+        [class] => first_class(alloc, class),
+        _ => Ok(None),
     }
 }
 
@@ -140,17 +113,19 @@ pub fn compile<'a>(
     alloc: Global,
     names: Build<'a>,
     config: &[u8],
-    class: &[u8],
+    files: &[Vec<u8>],
 ) -> Result<Texts, Trouble<'a>>
+    requires { length files.now ≤ most_classes }
     ensures texts { IfOk result (λ texts. (first : FirstConfig) × (second : FirstClass)
-        × (first_form config.now (class.now ∷ []) ≡ Some (first, second)) × AreTextsOf (built_of first second) texts) }
-    ensures stop { IfErr result (λ trouble. CompileStops trouble names.entry.config.now (names.entry.class.now ∷ []) config.now (class.now ∷ [])) }
+        × IsAccepted config.now (map (λ file. file.items) files.now) first second × AreTextsOf (built_of first second) texts) }
+    ensures stop { IfErr result (λ trouble. CompileStops trouble names.entry.config.now (map string_bytes names.entry.classes.now) config.now (map (λ file. file.items) files.now)) }
 {
-    let config = config_in(alloc, names.config, config)?;
-    let class = class_in(alloc, names.class, class)?;
-    let Some(input) = first_input(alloc, config, class)? else {
+    let input = read_input(alloc, names, config, files)?;
+    let config = first_config(alloc, &input.bound.config)?;
+    let class = only_class(alloc, input.world.files())?;
+    let Some(first) = first_input(alloc, config, class)? else {
         return Err(Trouble::Refused(LATER, names.config));
     };
-    let built = emit(alloc, &input.config, &input.class)?;
+    let built = emit(alloc, &first.config, &first.class)?;
     Ok(texts_of(alloc, &built)?)
 }

@@ -7,6 +7,8 @@ mod compile;
 mod config;
 mod emit;
 mod first_class;
+mod inputs;
+mod reading;
 mod report;
 mod status;
 mod summary;

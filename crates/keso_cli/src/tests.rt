@@ -89,6 +89,33 @@ fn run(
     })
 }
 
+/// The example, built into base `row`, from this configuration and these two classes.
+fn build_of_two(
+    alloc: Global,
+    config: &str,
+    class: &[u8],
+    other: &[u8],
+) -> Result<Ran, AllocError> {
+    let held = vec![in alloc;
+        file(alloc, "main.cfg", config.as_bytes())?,
+        file(alloc, "Main.class", class)?,
+        file(alloc, "Other.class", other)?,
+    ]?;
+    run(
+        alloc,
+        &[
+            "build",
+            "main.cfg",
+            "Main.class",
+            "Other.class",
+            "-o",
+            "row",
+        ],
+        held,
+        NONE_FAILS,
+    )
+}
+
 /// The example, built into base `row`, from this configuration and this class.
 fn build_of(
     alloc: Global,
@@ -136,12 +163,14 @@ fn the_example_is_built(rt: HostRuntime) -> Result<(), Fail> {
 #[test]
 fn words_that_are_no_command_touch_nothing(rt: HostRuntime) -> Result<(), Fail> {
     let alloc = rt.alloc();
-    let some: [&[&str]; 6] = [
+    let some: [&[&str]; 8] = [
         &[],
         &["build", "a", "b"],
+        &["build", "main.cfg", "-o", "row"],
         &["build", "main.cfg", "Main.class", "-o"],
         &["build", "main.cfg", "Main.class", "-o", "-row"],
         &["build", "", "Main.class", "-o", "row"],
+        &["build", "main.cfg", "Main.class", "-other", "-o", "row"],
         &["trace", "main.cfg", "Main.class", "-o", "row"],
     ];
     for words in some {
@@ -238,7 +267,6 @@ fn said_of(alloc: Global, config: &str) -> Result<Ran, AllocError> {
 fn input_of_another_form_comes_later(rt: HostRuntime) -> Result<(), Fail> {
     let configs = [
         "keso 1 order little\n",
-        "keso 1 order big\ndomain app heap 64\ntask main domain app prio 1 acts 1 auto yes sched full entry Main.stop\nnative Main.again()I ActivateTask main\n",
         "keso 1 order big\ndomain app heap 64\ntask main domain app prio 1 acts 1 auto yes sched full entry Main.run\nnative Main.again()I Schedule\n",
         "keso 1 order big\ndomain app heap 64\nresource r\ntask main domain app prio 1 acts 1 auto yes sched full entry Main.run\nnative Main.again()I ActivateTask main\n",
         "keso 1 order big\ndevices base 0 size 0\ndomain app heap 64\ntask main domain app prio 1 acts 1 auto yes sched full entry Main.run\nnative Main.again()I ActivateTask main\n",
@@ -333,5 +361,52 @@ fn a_class_of_another_form_comes_later(rt: HostRuntime) -> Result<(), Fail> {
     let ran = build_of(rt.alloc(), CONFIG, &with_byte(130, 0x00), NONE_FAILS)?;
     assert_eq!(rt; ran.status, Status::Refused);
     assert_eq!(rt; ran.err.bytes(), b"keso: main.cfg: Later at 0\n".as_slice());
+    Ok(())
+}
+
+#[test]
+fn a_line_that_names_nothing_is_refused(rt: HostRuntime) -> Result<(), Fail> {
+    let cases = [
+        (
+            "keso 1 order big\ndomain app heap 64\ntask main domain app prio 1 acts 1 auto yes sched full entry Main.stop\nnative Main.no()I ActivateTask main\n",
+            "keso: main.cfg: NoEntry at 3\n",
+        ),
+        (
+            "keso 1 order big\ndomain app heap 64\ntask main domain app prio 1 acts 1 auto yes sched full entry Main.run\nnative Main.no()I ActivateTask main\n",
+            "keso: main.cfg: BadNative at 4\n",
+        ),
+    ];
+    for (config, line) in cases {
+        let ran = said_of(rt.alloc(), config)?;
+        assert_eq!(rt; ran.status, Status::Refused);
+        assert_eq!(rt; ran.err.bytes(), line.as_bytes());
+    }
+    Ok(())
+}
+
+#[test]
+fn classes_that_are_no_world_are_refused(rt: HostRuntime) -> Result<(), Fail> {
+    let alloc = rt.alloc();
+    // `Nain` in place of `Main`, and `java/lang/Pbject` in place of `java/lang/Object`
+    let cases = [
+        (16, b'N', "keso: main.cfg: Later at 0\n"),
+        (16, b'M', "keso: Other.class: Duplicate at 0\n"),
+        (0, 0, "keso: Other.class: Magic at 0\n"),
+    ];
+    for (at, byte, line) in cases {
+        let ran = build_of_two(alloc, CONFIG, &CLASS, &with_byte(at, byte))?;
+        assert_eq!(rt; ran.status, Status::Refused);
+        assert_eq!(rt; ran.err.bytes(), line.as_bytes());
+    }
+    let ran = build_of(
+        alloc,
+        "keso 1 order big\n",
+        &with_byte(36, b'P'),
+        NONE_FAILS,
+    )?;
+    assert_eq!(rt;
+        ran.err.bytes(),
+        b"keso: Main.class: MissingClass at 89\n".as_slice()
+    );
     Ok(())
 }

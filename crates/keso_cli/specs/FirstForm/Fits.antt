@@ -3,6 +3,7 @@ use Rattle.std.specs.Prelude.{ℕ, Bool, not, ◌&&◌, List, [], ◌∷◌, ◌
 use Rattle.std.specs.List.{list_any}
 use Rattle.std.specs.Result.{result_ok}
 use Rattle.std.specs.Str.{bytes_eq}
+use Rattle.classfile.specs.ClassFile.{ClassInfo}
 use Rattle.classfile.specs.Pool.{◌>>=◌}
 use Rattle.classfile.specs.Reading.{class_file}
 use Rattle.keso_cli.specs.Configuration.{configuration}
@@ -42,6 +43,11 @@ abbrev pub class_in : List ℕ → Option FirstClass
 class_in bytes = do
   class ← result_ok (class_file bytes)
   class_of class
+
+-- the class of the first form that class files are: there is one
+abbrev pub only_class : List ClassInfo → Option FirstClass
+only_class (class ∷ []) = class_of class
+only_class _ = None
 
 -- what a configuration and one class of the first form say
 abbrev pub first_form : List ℕ → List (List ℕ) → Option (FirstConfig × FirstClass)
