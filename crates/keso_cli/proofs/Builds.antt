@@ -4,25 +4,25 @@ use Rattle.std.specs.FinMap.{get}
 use Rattle.kes_outside.specs.Contents.{Contents, OthersStay}
 use Rattle.csubset.specs.Text.Program.{program_text}
 use Rattle.oil_out.specs.OilText.{oil_text}
-use Rattle.keso_cli.specs.declared.built.Built.{Built}
+use Rattle.first_form.specs.declared.built.Built.{Built}
 use Rattle.keso_cli.specs.declared.compile.Texts.{Texts}
 use Rattle.keso_cli.specs.declared.trouble.Trouble.{Trouble}
 use Rattle.keso_cli.specs.declared.trouble.Trouble.TheVariants.{Usage, CannotRead, Refused, CannotWrite, CannotWriteOutput, NoMemory}
 use Rattle.keso_cli.specs.BuildEnds.{BuildStops, InputSays, IsBuiltFrom, Untouched}
 use Rattle.keso_cli.specs.Refusals.{IsAccepted, refusal_of}
-use Rattle.keso_cli.specs.FirstForm.Counts.{first_summary}
+use Rattle.first_form.specs.Counts.{first_summary}
 use Rattle.keso_cli.specs.Due.{due, AreTextsOf}
-use Rattle.keso_cli.specs.FirstForm.Fits.{first_form}
-use Rattle.keso_cli.specs.FirstForm.Program.{built_of}
-use Rattle.keso_cli.specs.declared.config.FirstConfig.{FirstConfig}
-use Rattle.keso_cli.specs.declared.first_class.FirstClass.{FirstClass}
+use Rattle.first_form.specs.Fits.{first_form}
+use Rattle.first_form.specs.Program.{built_of}
+use Rattle.first_form.specs.declared.config.FirstConfig.{FirstConfig}
+use Rattle.first_form.specs.declared.first_class.FirstClass.{FirstClass}
 use Rattle.keso_cli.specs.Left.{Written}
 use Rattle.keso_cli.specs.Seen.{FilesSeen, SinkSeen, TakesPrefix}
 use Rattle.keso_cli.specs.Stops.{CompileStops, WritesStop, PutStops}
 use Rattle.keso_cli.specs.Summary.{summary_text}
-use Rattle.keso_cli.specs.Headline.{Headline}
-use Rattle.keso_cli.proofs.Headline.All.{headline}
-use Rattle.keso_cli.proofs.Headline.Inversion.{none_is_some}
+use Rattle.first_form.specs.Headline.{Headline}
+use Rattle.first_form.proofs.Headline.All.{headline}
+use Rattle.first_form.proofs.Headline.Inversion.{none_is_some}
 use Rattle.keso_cli.specs.Texts.{Text, named, texts_of, written}
 
 -- the texts that the code has are those of what was built

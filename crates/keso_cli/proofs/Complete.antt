@@ -12,7 +12,7 @@ use Rattle.keso_cli.specs.Complete.{IsGiven, NoneRose, IsComplete}
 use Rattle.keso_cli.specs.Refusals.{refusal_of}
 use Rattle.keso_cli.specs.Request.{Request, Build}
 use Rattle.keso_cli.specs.Stands.{Outside, Stands, ReadFaultStands}
-use Rattle.keso_cli.proofs.Headline.Inversion.{none_is_some}
+use Rattle.first_form.proofs.Headline.Inversion.{none_is_some}
 
 some_back : (xs : List (List ℕ)) → map (λ o. unwrap_or o []) (map Some xs) ≡ xs
 some_back [] = refl

@@ -1,9 +1,7 @@
 pub mod Builds
 pub mod Complete
-pub mod OneByOne
 pub mod Refusing
 pub mod Troubles
 pub mod WordLemmas
 pub mod Worlds
 pub mod Writes
-pub mod Headline

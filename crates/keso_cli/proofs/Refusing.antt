@@ -12,18 +12,18 @@ use Rattle.kconfig.specs.declared.config.Config.{Config}
 use Rattle.kes_text.specs.declared.refusal.Refusal.{Refusal}
 use Rattle.kes_text.specs.declared.refusal.Stop.{Stop}
 use Rattle.kes_text.specs.declared.refusal.Stop.TheVariants as stop
-use Rattle.keso_cli.specs.declared.config.FirstConfig.{FirstConfig}
-use Rattle.keso_cli.specs.declared.first_class.FirstClass.{FirstClass}
+use Rattle.first_form.specs.declared.config.FirstConfig.{FirstConfig}
+use Rattle.first_form.specs.declared.first_class.FirstClass.{FirstClass}
 use Rattle.keso_cli.specs.declared.trouble.Trouble.{Trouble}
 use Rattle.keso_cli.specs.declared.trouble.Trouble.TheVariants.{Usage, CannotRead, Refused, CannotWrite, CannotWriteOutput, NoMemory}
-use Rattle.keso_cli.specs.Configuration.{configuration}
-use Rattle.keso_cli.specs.FirstForm.Class.{class_of}
-use Rattle.keso_cli.specs.FirstForm.Config.{config_of}
-use Rattle.keso_cli.specs.FirstForm.Fits.{if_they_fit, only_class, first_form}
+use Rattle.first_form.specs.Configuration.{configuration}
+use Rattle.first_form.specs.Class.{class_of}
+use Rattle.first_form.specs.Config.{config_of}
+use Rattle.first_form.specs.Fits.{if_they_fit, only_class, first_form}
 use Rattle.keso_cli.specs.Refusals.{IsAccepted, fault_of, first_fault, classes_in, of_class_file, world_refusal, binding_refusal, later, refusal_of, name_of}
 use Rattle.keso_cli.specs.Stops.{FileStops, ClassesStop, CompileStops}
 use Rattle.keso_cli.specs.Taken.{IsTaken}
-use Rattle.keso_cli.proofs.Headline.Inversion.{none_is_some}
+use Rattle.first_form.proofs.Headline.Inversion.{none_is_some}
 
 pub never_fits : (config : Option FirstConfig) → if_they_fit config None ≡ None
 never_fits None = refl

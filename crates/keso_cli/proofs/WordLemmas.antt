@@ -4,7 +4,7 @@ use Rattle.std.specs.List.{list_all}
 use Rattle.std.proofs.Math.Seq.{take-length}
 use Rattle.std.proofs.lemmas.List.{length-map, take-map, drop-map}
 use Rattle.std.proofs.lemmas.List.Folds.{list_all-map}
-use Rattle.keso_cli.proofs.Headline.Inversion.{none_is_some}
+use Rattle.first_form.proofs.Headline.Inversion.{none_is_some}
 use Rattle.keso_cli.specs.Request.{Request, Build, is_name, are_classes, is_build, request_ending, request_of}
 
 counts : (n : ℕ) (all : Bool) → 1 ≤ n → n ≤ 2048 → all ≡ (nat_le 1 n && nat_le n 2048 && all)

@@ -5,17 +5,17 @@ use Rattle.kes_outside.specs.Count.{Rose}
 use Rattle.kes_text.specs.declared.refusal.Refusal.{Refusal}
 use Rattle.keso_cli.specs.declared.trouble.Trouble.{Trouble}
 use Rattle.keso_cli.specs.declared.trouble.Trouble.TheVariants.{Usage, CannotRead, Refused, CannotWrite, CannotWriteOutput, NoMemory}
-use Rattle.keso_cli.specs.declared.built.Built.{Built}
-use Rattle.keso_cli.specs.Headline.{Headline}
+use Rattle.first_form.specs.declared.built.Built.{Built}
+use Rattle.first_form.specs.Headline.{Headline}
 use Rattle.keso_cli.specs.Texts.{texts_of}
 use Rattle.keso_cli.specs.Summary.{summary_text}
 use Rattle.keso_cli.specs.Seen.{FilesSeen, SinkSeen, Takes, TakesPrefix}
 use Rattle.keso_cli.specs.Left.{CannotBeRead, Written, WrittenInPart, WriteFailed}
-use Rattle.keso_cli.specs.declared.config.FirstConfig.{FirstConfig}
-use Rattle.keso_cli.specs.declared.first_class.FirstClass.{FirstClass}
-use Rattle.keso_cli.specs.FirstForm.Counts.{first_summary}
+use Rattle.first_form.specs.declared.config.FirstConfig.{FirstConfig}
+use Rattle.first_form.specs.declared.first_class.FirstClass.{FirstClass}
+use Rattle.first_form.specs.Counts.{first_summary}
 use Rattle.keso_cli.specs.Refusals.{IsAccepted, refusal_of, name_of}
-use Rattle.keso_cli.specs.FirstForm.Program.{built_of}
+use Rattle.first_form.specs.Program.{built_of}
 
 -- The files are as before, and the output has taken nothing.
 pub record Untouched (files files' : FilesSeen) (out out' : SinkSeen) : Type 0 where

@@ -1,7 +1,7 @@
 -- The texts of a build as the code has them.
 use Rattle.std.specs.Prelude.{◌≡◌, ℕ, List}
 use Rattle.keso_cli.specs.declared.compile.Texts.{Texts}
-use Rattle.keso_cli.specs.declared.built.Built.{Built}
+use Rattle.first_form.specs.declared.built.Built.{Built}
 use Rattle.keso_cli.specs.Texts.{Text, named}
 use Rattle.csubset.specs.Text.Program.{program_text}
 use Rattle.mapfile.specs.MapText.{map_text}

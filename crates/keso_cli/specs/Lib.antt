@@ -2,15 +2,11 @@ pub mod Asked
 pub mod BuildEnds
 pub mod CommandEnds
 pub mod Complete
-pub mod Configuration
 pub mod Due
 pub mod ExitCode
-pub mod FirstForm
-pub mod Headline
 pub mod Left
 pub mod Refusals
 pub mod Request
-pub mod Said
 pub mod Seen
 pub mod Stands
 pub mod Stops

@@ -14,10 +14,10 @@ use Rattle.classfile.specs.Reading.{class_file}
 use Rattle.jworld.specs.Faults.{world_fault}
 use Rattle.kbind.specs.Bound.{bound_of}
 use Rattle.kconfig.specs.declared.config.Config.{Config}
-use Rattle.keso_cli.specs.Configuration.{configuration}
-use Rattle.keso_cli.specs.declared.config.FirstConfig.{FirstConfig}
-use Rattle.keso_cli.specs.declared.first_class.FirstClass.{FirstClass}
-use Rattle.keso_cli.specs.FirstForm.Fits.{first_form}
+use Rattle.first_form.specs.Configuration.{configuration}
+use Rattle.first_form.specs.declared.config.FirstConfig.{FirstConfig}
+use Rattle.first_form.specs.declared.first_class.FirstClass.{FirstClass}
+use Rattle.first_form.specs.Fits.{first_form}
 
 -- a file's fault, with the file's number: the configuration is 0, and the first class file 1
 abbrev pub fault_of : {A : Type 0} → ℕ → Result A Stop → Option Refusal

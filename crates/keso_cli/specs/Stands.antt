@@ -6,8 +6,8 @@ use Rattle.kes_text.specs.Complaints.{refusal_text, usage_text, cannot_read_text
 use Rattle.keso_cli.specs.declared.status.Status.{Status}
 use Rattle.keso_cli.specs.declared.status.Status.TheVariants as status
 use Rattle.keso_cli.specs.BuildEnds.{BuildIsDone, InputIsRefused, IsBuiltFrom, StoppedWriting, Untouched}
-use Rattle.keso_cli.specs.declared.built.Built.{Built}
-use Rattle.keso_cli.specs.FirstForm.Counts.{first_summary}
+use Rattle.first_form.specs.declared.built.Built.{Built}
+use Rattle.first_form.specs.Counts.{first_summary}
 use Rattle.keso_cli.specs.Texts.{texts_of}
 use Rattle.keso_cli.specs.Left.{CannotBeRead, Written, WriteFailed}
 use Rattle.keso_cli.specs.Refusals.{name_of}

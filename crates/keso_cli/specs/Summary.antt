@@ -1,6 +1,6 @@
 -- The four lines that a build puts on the output.
 use Rattle.std.specs.Prelude.{ℕ, List, ◌++◌, codes, decimal}
-use Rattle.keso_cli.specs.declared.summary.Summary.{Summary}
+use Rattle.first_form.specs.declared.counts.Summary.{Summary}
 
 abbrev pub count_line : List ℕ → ℕ → List ℕ
 count_line what number = what ++ decimal number ++ codes "\n"

@@ -4,7 +4,7 @@ use Rattle.classfile.specs.ClassFile.{ClassInfo}
 use Rattle.classfile.specs.Reading.{class_file}
 use Rattle.jworld.specs.Faults.{world_fault}
 use Rattle.kconfig.specs.declared.config.Config.{Config}
-use Rattle.keso_cli.specs.Configuration.{configuration}
+use Rattle.first_form.specs.Configuration.{configuration}
 use Rattle.keso_cli.specs.Refusals.{binding_refusal}
 
 pub record IsTaken (text : List ℕ) (files : List (List ℕ)) (config : Config) (classes : List ClassInfo) : Type 0 where

@@ -2,7 +2,7 @@
 use Rattle.std.specs.Prelude.{ℕ, List, [], ◌∷◌, ◌++◌, codes}
 use Rattle.std.specs.FinMap.{insert}
 use Rattle.kes_outside.specs.Contents.{Contents}
-use Rattle.keso_cli.specs.declared.built.Built.{Built}
+use Rattle.first_form.specs.declared.built.Built.{Built}
 use Rattle.csubset.specs.Text.Program.{program_text}
 use Rattle.mapfile.specs.MapText.{map_text}
 use Rattle.oil_out.specs.OilText.{oil_text}

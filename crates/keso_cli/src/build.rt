@@ -2,7 +2,7 @@ ghost use Rattle.std.specs.Prelude.{◌≡◌, ◌≤◌, ◌++◌, length, map,
 ghost use Rattle.std.specs.FinMap.{get};
 ghost use Rattle.keso_cli.specs.Due.{due};
 ghost use Rattle.keso_cli.specs.BuildEnds.{BuildIsDone, BuildStops};
-ghost use Rattle.keso_cli.specs.FirstForm.Counts.{first_summary};
+ghost use Rattle.first_form.specs.Counts.{first_summary};
 ghost use Rattle.keso_cli.specs.Left.{Writes, Written};
 ghost use Rattle.keso_cli.specs.Request.{most_classes};
 ghost use Rattle.keso_cli.specs.Seen.{files_seen, sink_seen, Takes};
@@ -11,9 +11,10 @@ ghost use Rattle.keso_cli.specs.Summary.{summary_text};
 
 use crate::compile::{Texts, compile};
 use crate::inputs::FileBytes;
-use crate::summary::{FIRST_SUMMARY, summary_lines};
+use crate::summary::summary_lines;
 use crate::trouble::Trouble;
 use crate::words::Build;
+use first_form::FIRST_SUMMARY;
 use kes_outside::{FileFault, Files, ReadStop, Sink, SinkFault};
 use kes_text::NoMemory;
 use std::alloc::Global;

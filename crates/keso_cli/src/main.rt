@@ -2,11 +2,7 @@
 #![tactic(auto)]
 
 mod build;
-mod built;
 mod compile;
-mod config;
-mod emit;
-mod first_class;
 mod inputs;
 mod reading;
 mod report;

@@ -4,7 +4,7 @@ ghost use Rattle.std.specs.Prelude.{◌≡◌, ◌+◌, ◌≤◌, [], length, m
 ghost use Rattle.classfile.specs.Reading.{class_file};
 ghost use Rattle.jworld.specs.Faults.{world_fault};
 ghost use Rattle.kbind.specs.Bound.{bound_of};
-ghost use Rattle.keso_cli.specs.Configuration.{configuration};
+ghost use Rattle.first_form.specs.Configuration.{configuration};
 ghost use Rattle.keso_cli.specs.Refusals.{first_fault, world_refusal, binding_refusal};
 ghost use Rattle.keso_cli.specs.Request.{most_classes};
 ghost use Rattle.keso_cli.specs.Stops.{FileStops, ClassesStop, CompileStops};
@@ -28,7 +28,7 @@ pub struct Input<'b> {
 }
 
 /// The configuration that the text of this name is.
-#[tactic(auto, unfolding(crate::specs::Configuration::configuration))]
+#[tactic(auto, unfolding(first_form::specs::Configuration::configuration))]
 fn config_in<'a>(alloc: Global, name: &'a str, text: &[u8]) -> Result<Config, Trouble<'a>>
     ensures ok { IfOk result (λ config. configuration text.now ≡ Ok config) }
     ensures stop { IfErr result (λ trouble. FileStops trouble 0 name.now (configuration text.now)) }

@@ -2,8 +2,8 @@
 use Rattle.std.proofs.Common.{map, string_bytes, subst, refl, ◌∙◌, arith}
 use Rattle.std.proofs.lemmas.Result.{err_from_is_err_and, IfErr-weaker, on_ok_weaker}
 use Rattle.keso_cli.specs.BuildEnds.{BuildStops}
-use Rattle.keso_cli.specs.FirstForm.Counts.{first_summary}
-use Rattle.keso_cli.specs.FirstForm.Program.{built_of}
+use Rattle.first_form.specs.Counts.{first_summary}
+use Rattle.first_form.specs.Program.{built_of}
 use Rattle.keso_cli.specs.Left.{Written}
 use Rattle.keso_cli.specs.Seen.{files_seen, sink_seen}
 use Rattle.keso_cli.specs.Stops.{PutStops, WritesStop}
