@@ -11,8 +11,6 @@ mod faults;
 mod law;
 mod member;
 mod members;
-#[cfg(test)]
-mod motor;
 mod names;
 mod numbers;
 mod pool;
@@ -21,8 +19,6 @@ mod rows;
 mod scan;
 mod seen;
 mod slice;
-#[cfg(test)]
-mod tests;
 mod text;
 mod uses;
 mod worked;

@@ -15,8 +15,6 @@ mod row;
 mod switches;
 mod table;
 mod target;
-#[cfg(test)]
-mod tests;
 mod worked;
 
 pub use decoding::decode;

@@ -9,13 +9,9 @@ mod methods;
 mod reader;
 mod reading;
 mod service_words;
-#[cfg(test)]
-mod table_tests;
 mod task_masks;
 mod task_rows;
 mod tasks;
-#[cfg(test)]
-mod tests;
 mod word_set;
 mod words;
 mod worked;

@@ -9,8 +9,6 @@ mod pieces;
 mod reading;
 mod scan;
 mod tasks;
-#[cfg(test)]
-mod tests;
 mod worked;
 
 pub use law::{printed_tables_come_back, what_is_said_is_read};

@@ -8,8 +8,6 @@ mod law;
 mod line;
 mod names;
 mod reading;
-#[cfg(test)]
-mod tests;
 mod writing;
 
 pub use event_words::event_line;

@@ -7,8 +7,6 @@ mod items;
 mod rest;
 mod start;
 mod table;
-#[cfg(test)]
-mod tests;
 mod vtype;
 
 pub use frame::{Declared, Frame};

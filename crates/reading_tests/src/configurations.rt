@@ -1,7 +1,7 @@
 ghost use Rattle.std.specs.Prelude.{◌≡◌, true, false, codes, Some};
 ghost use Rattle.kconfig.specs.Words.{is_name, is_entry, is_field, is_method, parts};
 
-use super::*;
+use kconfig::*;
 use kes_text::{Kind, Refusal, Stop};
 use std::alloc::Global;
 use std::test::Fail;

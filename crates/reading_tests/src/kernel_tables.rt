@@ -1,4 +1,4 @@
-use super::*;
+use kconfig::*;
 use osek_core::{AlarmRow, CounterRow, CounterRule, Name, Start, TaskRow, TaskRule};
 use std::alloc::Global;
 use std::test::Fail;

@@ -1,6 +1,6 @@
-use super::*;
 use crate::motor::MOTOR;
 use bitflags::Flags;
+use classfile::*;
 use kes_text::{Kind, Refusal, Stop};
 use std::alloc::{AllocError, Global};
 use std::process::Abort;

@@ -1,7 +1,7 @@
-use super::*;
 use classfile::{Access, Method, read_class};
 use kes_text::{Kind, Refusal, Stop};
 use sqlite_items::Items;
+use stackmap::*;
 use std::alloc::{AllocError, Global};
 use std::process::Abort;
 use std::test::Fail;

@@ -1,5 +1,5 @@
-use super::*;
 use classfile::read_class;
+use jcode::*;
 use kes_text::{Kind, Stop};
 use std::test::Fail;
 

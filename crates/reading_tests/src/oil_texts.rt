@@ -1,8 +1,8 @@
 ghost use Rattle.std.specs.Prelude.{◌≡◌};
 ghost use Rattle.osek_model.specs.Call.{IsCallOf};
 
-use super::*;
 use kes_text::{Kind, NoMemory, Stop};
+use oil_in::*;
 use oil_out::print_oil;
 use osek_core::Call;
 use osek_model::Kernel;

@@ -1,9 +1,9 @@
 ghost use Rattle.std.specs.Prelude.{◌≡◌, length, IfOk};
 ghost use Rattle.script.specs.Names.{AreFew};
 
-use super::*;
 use kes_text::{Kind, Refusal, Stop};
 use osek_core::Call;
+use script::*;
 use sqlite_items::Items;
 use std::alloc::{AllocError, Global};
 use std::test::Fail;
