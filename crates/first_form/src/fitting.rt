@@ -7,7 +7,7 @@ ghost use Rattle.first_form.specs.Fits.{fits, has_dot, if_they_fit, only_class};
 ghost use Rattle.first_form.specs.Said.{said};
 
 use crate::config::{FirstConfig, first_config};
-use crate::emit::shown_method;
+use crate::emission::shown_method;
 use crate::first_class::{FirstClass, first_class};
 use classfile::Class;
 use kconfig::Config;

@@ -5,13 +5,13 @@
 mod built;
 mod config;
 mod counts;
-mod emit;
+mod emission;
 mod first_class;
 mod fitting;
 
 pub use built::Built;
 pub use config::FirstConfig;
 pub use counts::{FIRST_SUMMARY, Summary};
-pub use emit::emit;
+pub use emission::emit;
 pub use first_class::{FirstClass, Op, Placed};
 pub use fitting::{FirstInput, first_input};
