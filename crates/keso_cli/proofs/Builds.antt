@@ -1,6 +1,7 @@
 -- What a build has read, made and written, where it stops.
-use Rattle.std.proofs.Common.{◌≡◌, ℕ, ◌≤◌, List, [], ◌∷◌, ◌++◌, Option, Some, None, IfSome, IsSomeAnd, map, take, refl, sym, ap, subst, ◌∙◌, inl, inr, arith, append-nil, string_bytes}
+use Rattle.std.proofs.Common.{◌≡◌, ℕ, ◌≤◌, List, [], ◌∷◌, ◌++◌, Option, Some, None, IfSome, IsSomeAnd, map, take, refl, sym, ap, subst, ◌∙◌, inl, inr, ⊎_elim, arith, append-nil, string_bytes}
 use Rattle.std.specs.FinMap.{get}
+use Rattle.std.proofs.lemmas.List.Elements.{Contains-append_right}
 use Rattle.kes_outside.specs.Contents.{Contents, OthersStay}
 use Rattle.csubset.specs.Text.Program.{program_text}
 use Rattle.oil_out.specs.OilText.{oil_text}
@@ -18,7 +19,7 @@ use Rattle.first_form.specs.declared.config.FirstConfig.{FirstConfig}
 use Rattle.first_form.specs.declared.first_class.FirstClass.{FirstClass}
 use Rattle.keso_cli.specs.Left.{Written}
 use Rattle.keso_cli.specs.Seen.{FilesSeen, SinkSeen, TakesPrefix}
-use Rattle.keso_cli.specs.Stops.{CompileStops, WritesStop, PutStops}
+use Rattle.keso_cli.specs.Stops.{CompileStops, ReadsStop, WritesStop, PutStops}
 use Rattle.keso_cli.specs.Summary.{summary_text}
 use Rattle.first_form.specs.Headline.{Headline}
 use Rattle.first_form.proofs.Headline.All.{headline}
@@ -75,6 +76,20 @@ compile_stops Usage config classes base text bytes files files' out out' input s
 compile_stops (CannotRead name) config classes base text bytes files files' out out' input same h = absurd h
 compile_stops (CannotWrite name) config classes base text bytes files files' out out' input same h = absurd h
 compile_stops CannotWriteOutput config classes base text bytes files files' out out' input same h = absurd h
+
+pub reads_stop : (trouble : Trouble) (config base : List ℕ) (classes : List (List ℕ)) (before mid after : FilesSeen) (out : SinkSeen)
+    → mid.contents ≡ before.contents → before.faults ≤ mid.faults → after.contents ≡ mid.contents
+    → ReadsStop trouble classes mid after → BuildStops trouble config classes base before after out out
+reads_stop (CannotRead name) config base classes before mid after out same count stays h = (
+  Contains-append_right (config ∷ []) classes name.now h.0,
+  ⊎_elim (λ rose. inl (omega (rose, count, arith))) (λ missing. inr (subst (λ o. IsSomeAnd o (λ files. get files name.now ≡ None)) same missing)) h.1,
+  record { files_stay = stays ∙ same; out_stays = refl },
+)
+reads_stop NoMemory config base classes before mid after out same count stays h = inl (record { files_stay = stays ∙ same; out_stays = refl })
+reads_stop Usage config base classes before mid after out same count stays h = absurd h
+reads_stop (Refused refusal name) config base classes before mid after out same count stays h = absurd h
+reads_stop (CannotWrite name) config base classes before mid after out same count stays h = absurd h
+reads_stop CannotWriteOutput config base classes before mid after out same count stays h = absurd h
 
 -- what was written since the input was read was written since the call began
 pub written_since : (texts : List Text) (before mid after : FilesSeen) → mid.contents ≡ before.contents → Written texts mid after → Written texts before after

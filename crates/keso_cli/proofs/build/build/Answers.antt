@@ -9,8 +9,17 @@ use Rattle.keso_cli.specs.Seen.{files_seen, sink_seen}
 use Rattle.keso_cli.specs.Stops.{PutStops, WritesStop}
 use Rattle.keso_cli.specs.Summary.{summary_text}
 use Rattle.keso_cli.specs.Texts.{texts_of}
-use Rattle.keso_cli.proofs.Builds.{InputIs, compile_stops, built_from, due-is, put_stops, writes_stop, written_since}
+use Rattle.keso_cli.proofs.Builds.{InputIs, reads_stop, compile_stops, built_from, due-is, put_stops, writes_stop, written_since}
 use Rattle.keso_cli.proofs.build.build.Goals as goal
+
+pub returns-in_err-classes-clause-stop : goal.returns-in_err-classes-clause-stop
+returns-in_err-classes-clause-stop g c =
+    let p = err_from_is_err_and c.from_residual-in_err-classes.result c.from_residual-in_err-classes.ensures.1 in
+    let files = files_seen g.F.Files.contents g.F.Files.faults in
+    let out = sink_seen g.O.Sink.taken g.O.Sink.faults in
+    rw (p.1, p.2)
+    (reads_stop c.in_err-classes.field-0.0 c.args.names.config.now c.args.names.base.now (map string_bytes c.args.names.classes.now) (files c.args.files.now) (files c.read.new.files) (files c.read_all.new.files) (out c.args.out.now)
+    c.in_ok-config.ensures.stays c.in_ok-config.ensures.count c.in_err-classes.ensures.stays c.in_err-classes.ensures.stop)
 
 pub returns-in_err-texts-clause-stop : goal.returns-in_err-texts-clause-stop
 returns-in_err-texts-clause-stop g c =

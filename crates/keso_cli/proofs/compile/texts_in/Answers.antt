@@ -5,11 +5,11 @@ use Rattle.first_form.specs.Said.{said}
 use Rattle.keso_cli.specs.Due.{AreTextsOf}
 use Rattle.keso_cli.proofs.compile.texts_in.Goals as goal
 
-pub returns-in_default-clause : goal.returns-in_default-clause
-returns-in_default-clause c = sym c.in_ok-first.ensures ∙ ap (option_map said) c.in_default.is
+pub returns-in_default : goal.returns-in_default
+returns-in_default c = sym c.in_ok-first.ensures ∙ ap (option_map said) c.in_default.is
 
-pub returns-clause : goal.returns-clause
-returns-clause c = (
+pub returns : goal.returns
+returns c = (
   c.in-Some.first.config,
   c.in-Some.first.class,
   sym c.in_ok-first.ensures ∙ ap (option_map said) c.in-Some.is,
