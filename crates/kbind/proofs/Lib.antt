@@ -5,3 +5,6 @@ pub mod Lines
 pub mod Joining
 pub mod Small
 pub mod Each
+pub mod Keys
+pub mod Seeing
+pub mod Marking

@@ -76,10 +76,13 @@ cell_named files line = option_and_then (cell_in files line.width (cell_parts li
 abbrev pub is_cell_of : List ℕ → CellLine → Bool
 is_cell_of class line = bytes_eq class (cell_parts line.field).0
 
+-- a cell line of this CLASS and this FIELD
+abbrev pub is_of : List ℕ → List ℕ → CellLine → Bool
+is_of class name line = bytes_eq class (cell_parts line.field).0 && bytes_eq name (cell_parts line.field).1
+
 -- a field that is static, or has a cell line
 abbrev pub has_cell : List CellLine → List ℕ → FieldInfo → Bool
-has_cell cells class field =
-    not (is_instance field) || list_any (λ line. bytes_eq class (cell_parts line.field).0 && bytes_eq (shown field.name) (cell_parts line.field).1) cells
+has_cell cells class field = not (is_instance field) || list_any (is_of class (shown field.name)) cells
 
 abbrev pub is_that : Option ℕ → ℕ → Bool
 is_that None n = false

@@ -8,9 +8,13 @@ use Rattle.jworld.specs.Members.{declared_method, is_static}
 use Rattle.kconfig.specs.Words.{parts}
 use Rattle.kbind.specs.Shown.{is_shown_by, class_shown}
 
+-- a method that may be an entry
+abbrev pub may_be_entry : MethodInfo → Bool
+may_be_entry method = (is_static method && is_some method.code) && bytes_eq method.descriptor (codes "()V")
+
 -- a method that may be an entry of this NAME
 abbrev pub is_entry_of : List ℕ → MethodInfo → Bool
-is_entry_of name method = ((is_static method && is_some method.code) && bytes_eq method.descriptor (codes "()V")) && is_shown_by name method.name
+is_entry_of name method = may_be_entry method && is_shown_by name method.name
 
 -- an entry of this NAME in a class
 abbrev pub entry_in : World → List ℕ → ℕ → Option MethodId

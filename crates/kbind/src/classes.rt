@@ -4,9 +4,14 @@ ghost use Rattle.std.specs.Prelude.{◌≡◌, IfOk, map, option_map, reverse, p
 ghost use Rattle.kes_text.specs.Shown.{shown};
 ghost use Rattle.jworld.specs.Classes.{names};
 ghost use Rattle.kconfig.specs.Words.{is_dot, parts};
-ghost use Rattle.kbind.specs.Kept.{AreShown};
-ghost use Rattle.kbind.specs.Shown.{is_shown_by, class_shown};
+ghost use Rattle.kbind.specs.Cells.{has_subclass};
+ghost use Rattle.kbind.specs.Kept.{AreShown, entry_seen, field_seen};
+ghost use Rattle.kbind.specs.Shown.{class_shown};
 
+use crate::cells::field_names;
+use crate::entries::entry_names;
+use crate::named::{Named, Seen, seen_of};
+use crate::parents::all_parents;
 use crate::places::Index;
 use jworld::{ClassId, World};
 use kes_text::{NoMemory, escape};
@@ -35,11 +40,14 @@ fn slices<'t>(alloc: Global, texts: &'t [Vec<u8>]) -> Result<Vec<&'t [u8]>, NoMe
     Ok(slices)
 }
 
-/// A world whose classes are found by their shown names. Contracts see the world's files.
+/// A world whose classes are found by their shown names, and their members as well. Contracts see the world's files.
 #[derive(Drop)]
 pub struct Classes<'t, 'w, 'a> {
     world: &'w World<'a>,
     index: Index<'t>,
+    entries: Vec<Named>,
+    fields: Vec<Named>,
+    parents: Vec<bool>,
 }
 
 impl<'t, 'w, 'a> Model for Classes<'t, 'w, 'a> {
@@ -47,11 +55,11 @@ impl<'t, 'w, 'a> Model for Classes<'t, 'w, 'a> {
 
     ghost Value = { spec.World };
 
-    ghost use Rattle.kbind.specs.Kept.{AreShown};
+    ghost use Rattle.kbind.specs.Kept.{AreKept};
 
     ghost view = { λ c. c.world.now };
 
-    ghost invariant = { λ c. AreShown c.world.now c.index };
+    ghost invariant = { λ c. AreKept c.world.now c.index c.entries.items c.fields.items c.parents.items };
 }
 
 impl<'t, 'w, 'a> Classes<'t, 'w, 'a> {
@@ -65,7 +73,16 @@ impl<'t, 'w, 'a> Classes<'t, 'w, 'a> {
         ensures { IfOk result (λ classes. classes ≡ world.now) }
     {
         let index = Index::of(alloc, slices(alloc, names)?)?;
-        Ok(Classes { world, index })
+        let entries = entry_names(alloc, world)?;
+        let fields = field_names(alloc, world)?;
+        let parents = all_parents(alloc, world)?;
+        Ok(Classes {
+            world,
+            index,
+            entries,
+            fields,
+            parents,
+        })
     }
 
     pub fn world(&self) -> &'w World<'a>
@@ -81,14 +98,30 @@ impl<'t, 'w, 'a> Classes<'t, 'w, 'a> {
         let n = self.index.first(word)?;
         Some(ClassId { n: n as u32 })
     }
-}
 
-/// Whether a name is shown by this word.
-pub fn is_shown_by(alloc: Global, word: &[u8], name: &[u8]) -> Result<bool, NoMemory>
-    ensures { IfOk result (λ is. is ≡ is_shown_by word.now name.now) }
-{
-    let shown = escape(alloc, name)?;
-    Ok(word == shown.as_slice())
+    /// The methods of a class that may be entries of this NAME.
+    pub fn entry(&self, name: &[u8], class: ClassId) -> Option<Seen>
+        ensures { result ≡ entry_seen self.now name.now class.n }
+    {
+        seen_of(self.entries.as_slice(), name, class)
+    }
+
+    /// The instance fields of a class of this FIELD.
+    pub fn field(&self, name: &[u8], class: ClassId) -> Option<Seen>
+        ensures { result ≡ field_seen self.now name.now class.n }
+    {
+        seen_of(self.fields.as_slice(), name, class)
+    }
+
+    /// Whether a class is the direct superclass of another.
+    pub fn has_subclass(&self, class: ClassId) -> bool
+        ensures { result ≡ has_subclass self.now class.n }
+    {
+        match self.parents.get(class.n as usize) {
+            Some(is_parent) => *is_parent,
+            None => false,
+        }
+    }
 }
 
 /// How many bytes stand behind the last dot.

@@ -11,13 +11,18 @@ mod devices;
 mod entries;
 mod mapped;
 mod methods;
+mod named;
 mod natives;
 mod noting;
 mod objects;
+mod pairs;
+mod parents;
 mod places;
 mod portals;
 #[cfg(test)]
 mod tests;
+mod worked;
 
 pub use binding::bind;
 pub use bound::Bound;
+pub use worked::{named_members, natives_refused, objects_placed, portals_matched};

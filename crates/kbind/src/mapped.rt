@@ -1,18 +1,19 @@
 //! The classes of cell lines.
 
-ghost use Rattle.std.specs.Prelude.{◌≡◌, ◌++◌, ◌&&◌, bytes_eq, IfOk, filter_map, is_some, position, map, option_map};
+ghost use Rattle.std.specs.Prelude.{◌≡◌, ◌++◌, ◌||◌, ℕ, List, IfOk, OnOk, filter_map, is_some, position, map, option_map};
 ghost use Rattle.std.specs.List.{list_all, list_any};
-ghost use Rattle.kes_text.specs.Shown.{shown};
-ghost use Rattle.jworld.specs.Classes.{count, super_of};
-ghost use Rattle.kbind.specs.Cells.{cell_parts, cell_named, is_cell_of, has_cell, is_that, has_subclass, is_mapped, opens_class, cell_holds};
+ghost use Rattle.kbind.specs.Pairs.{is_among};
+ghost use Rattle.kbind.specs.Cells.{cell_parts, cell_named, is_cell_of, is_of, has_cell, is_that, is_mapped, opens_class, cell_holds};
+ghost use Rattle.kbind.specs.CellsKept.{ArePairs};
 ghost use Rattle.kbind.specs.Bound.{cell_faults};
 
 use crate::cells::{cell_named, cell_parts, is_instance};
 use crate::classes::Classes;
 use crate::noting::{blame, keep};
+use crate::pairs::Pairs;
 use crate::places::Index;
 use classfile::Field;
-use jworld::{ClassId, FieldId, World};
+use jworld::{ClassId, FieldId};
 use kconfig::CellLine;
 use kes_text::{Kind, NoMemory, Refusal, escape};
 use sqlite_items::Items;
@@ -31,23 +32,44 @@ fn cell_classes<'t>(alloc: Global, lines: &'t [CellLine]) -> Result<Vec<&'t [u8]
     Ok(words)
 }
 
-/// Cell lines of which the first of a CLASS is found. Contracts see their list.
+/// Notes the CLASS and the FIELD of a cell line.
+fn add_parts<'t>(alloc: Global, pairs: &mut Pairs<'t>, line: &'t CellLine) -> Result<(), NoMemory>
+    ensures { OnOk result ((class name : List ℕ) → is_among class name pairs.new ≡ (is_of class name line.now || is_among class name pairs.old)) }
+{
+    let (class, name) = cell_parts(line.field.as_slice());
+    pairs.insert(class, name.to_vec(alloc)?)
+}
+
+/// The CLASS and the FIELD of each cell line.
+fn all_parts<'t>(alloc: Global, lines: &'t [CellLine]) -> Result<Pairs<'t>, NoMemory>
+    ensures { IfOk result (λ pairs. ArePairs lines.now pairs) }
+{
+    let mut pairs = Pairs::new(alloc);
+    for n in (0..lines.len()).rev() {
+        add_parts(alloc, &mut pairs, &lines[n])?;
+    }
+    Ok(pairs)
+}
+
+/// Cell lines of which the first of a CLASS is found, and whether there is one of a CLASS and a FIELD. Contracts see
+/// their list.
 #[derive(Drop)]
 pub struct Cells<'t> {
     lines: &'t [CellLine],
     classes: Index<'t>,
+    pairs: Pairs<'t>,
 }
 
 impl<'t> Model for Cells<'t> {
-    ghost use Rattle.std.specs.Prelude.{◌≡◌, List, map};
+    ghost use Rattle.std.specs.Prelude.{List};
     ghost use Rattle.kconfig.specs.declared.config.CellLine.{CellLine};
-    ghost use Rattle.kbind.specs.Cells.{cell_parts};
+    ghost use Rattle.kbind.specs.CellsKept.{AreCells};
 
     ghost Value = { List CellLine };
 
     ghost view = { λ c. c.lines.now };
 
-    ghost invariant = { λ c. c.classes ≡ map (λ line. (cell_parts line.field).0) c.lines.now };
+    ghost invariant = { λ c. AreCells c.lines.now c.classes c.pairs };
 }
 
 impl<'t> Cells<'t> {
@@ -55,7 +77,12 @@ impl<'t> Cells<'t> {
         ensures { IfOk result (λ cells. cells ≡ lines.now) }
     {
         let classes = Index::of(alloc, cell_classes(alloc, lines)?)?;
-        Ok(Cells { lines, classes })
+        let pairs = all_parts(alloc, lines)?;
+        Ok(Cells {
+            lines,
+            classes,
+            pairs,
+        })
     }
 
     pub fn lines(&self) -> &'t [CellLine]
@@ -69,6 +96,13 @@ impl<'t> Cells<'t> {
         ensures { result ≡ position (is_cell_of class.now) self.now }
     {
         self.classes.first(class)
+    }
+
+    /// Whether there is a line of a CLASS and a FIELD.
+    pub fn has(&self, class: &'t [u8], name: Vec<u8>) -> bool
+        ensures { result ≡ list_any (is_of class.now name.items) self.now }
+    {
+        self.pairs.has(class, name)
     }
 }
 
@@ -92,55 +126,32 @@ fn is_class(found: Option<ClassId>, class: u32) -> bool
     }
 }
 
-/// Whether a class is the direct superclass of another.
-fn has_subclass(world: &World<'_>, class: ClassId) -> bool
-    ensures { result ≡ has_subclass world.now class.n }
-{
-    for n in 0..world.count() {
-        if is_class(world.super_of(ClassId { n }), class.n) {
-            return true;
-        }
-    }
-    false
-}
-
-/// Whether a cell line has this CLASS and this FIELD.
-fn is_among(lines: &[CellLine], class: &[u8], name: &[u8]) -> bool
-    ensures { result ≡ list_any (λ line. bytes_eq class.now (cell_parts line.field).0 && bytes_eq name.now (cell_parts line.field).1) lines.now }
-{
-    lines.iter().any(|line| {
-        let both = cell_parts(line.field.as_slice());
-        class == both.0 && name == both.1
-    })
-}
-
 /// Whether a field of a CLASS is static or has a cell line.
-fn has_cell(
+fn has_cell<'t>(
     alloc: Global,
-    lines: &[CellLine],
-    class: &[u8],
+    cells: &Cells<'t>,
+    class: &'t [u8],
     field: &Field<'_>,
 ) -> Result<bool, NoMemory>
-    ensures { IfOk result (λ has. has ≡ has_cell lines.now class.now field.now) }
+    ensures { IfOk result (λ has. has ≡ has_cell cells.now class.now field.now) }
 {
     if !is_instance(field) {
         return Ok(true);
     }
-    let name = escape(alloc, field.name)?;
-    Ok(is_among(lines, class, name.as_slice()))
+    Ok(cells.has(class, escape(alloc, field.name)?))
 }
 
 /// Whether each of these fields is static or has a cell line.
-fn have_cells(
+fn have_cells<'t>(
     alloc: Global,
-    lines: &[CellLine],
-    class: &[u8],
+    cells: &Cells<'t>,
+    class: &'t [u8],
     fields: &[Field<'_>],
 ) -> Result<bool, NoMemory>
-    ensures { IfOk result (λ have. have ≡ list_all (has_cell lines.now class.now) fields.now) }
+    ensures { IfOk result (λ have. have ≡ list_all (has_cell cells.now class.now) fields.now) }
 {
     for field in fields {
-        if !has_cell(alloc, lines, class, field)? {
+        if !has_cell(alloc, cells, class, field)? {
             return Ok(false);
         }
     }
@@ -148,21 +159,22 @@ fn have_cells(
 }
 
 /// Whether a class may have cells, and has one for each instance field.
-fn is_mapped(
+fn is_mapped<'t>(
     alloc: Global,
-    world: &World<'_>,
-    lines: &[CellLine],
-    word: &[u8],
+    classes: &Classes<'t, '_, '_>,
+    cells: &Cells<'t>,
+    word: &'t [u8],
     class: ClassId,
 ) -> Result<bool, NoMemory>
-    ensures { IfOk result (λ mapped. mapped ≡ is_mapped world.now lines.now word.now class.n) }
+    ensures { IfOk result (λ mapped. mapped ≡ is_mapped classes.now cells.now word.now class.n) }
 {
+    let world = classes.world();
     let below_object = !world.is_interface(class) && is_class(world.super_of(class), 0);
-    if !below_object || has_subclass(world, class) {
+    if !below_object || classes.has_subclass(class) {
         return Ok(false);
     }
     match world.get(class) {
-        Some(file) => have_cells(alloc, lines, word, file.fields()),
+        Some(file) => have_cells(alloc, cells, word, file.fields()),
         None => Ok(true),
     }
 }
@@ -181,7 +193,7 @@ fn opens_class<'t>(
         return Ok(true);
     }
     match classes.named(word) {
-        Some(class) => is_mapped(alloc, classes.world(), cells.lines(), word, class),
+        Some(class) => is_mapped(alloc, classes, cells, word, class),
         None => Ok(false),
     }
 }
@@ -217,7 +229,7 @@ pub fn bind_cells<'t>(
 {
     let mut members = Items::new(alloc);
     for (n, line) in cells.lines().iter().enumerate() {
-        let found = cell_named(alloc, classes, line)?;
+        let found = cell_named(classes, line);
         let holds = cell_holds(alloc, classes, cells, n, line, found.is_some())?;
         blame(faults, holds, Kind::BadMapped, line.line)?;
         keep(&mut members, found)?;

@@ -9,10 +9,10 @@ pub loop-line-preserved : goal.loop-line-preserved
 loop-line-preserved c =
     let files = c.args.classes.now in
     let line = c.line-item.result in
-    let blames = ap (λ (b : Bool). unless b kind.NoEntry line.line) (c.is_some.ensures ∙ ap is_some c.in_ok-found.ensures) in
+    let blames = ap (λ (b : Bool). unless b kind.NoEntry line.line) (c.is_some.ensures ∙ ap is_some c.entry_of-found.ensures) in
     record {
-      members = member_more (entry_of files) c.args.lines.now c.loop-line.line-index line c.in_ok-found.found c.loop-line.members c.keep.new.members _ c.loop-line-test.true c.line-item.is
-          c.in_ok-found.ensures c.in_ok-keep.ensures c.loop-line.invariant.members;
+      members = member_more (entry_of files) c.args.lines.now c.loop-line.line-index line c.entry_of-found.result c.loop-line.members c.keep.new.members _ c.loop-line-test.true c.line-item.is
+          c.entry_of-found.ensures c.in_ok-keep.ensures c.loop-line.invariant.members;
       faults = fault_more (λ (x : TaskLine). unless (is_some (entry_of files x)) kind.NoEntry x.line) c.args.lines.now c.loop-line.line-index line _ c.loop-line.faults c.blame.new.faults _ c.loop-line-test.true c.line-item.is
           blames c.in_ok-blame.ensures c.loop-line.invariant.faults;
     }

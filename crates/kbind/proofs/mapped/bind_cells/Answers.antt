@@ -11,8 +11,8 @@ pub loop-n-preserved : goal.loop-n-preserved
 loop-n-preserved c =
     let line = c.line-item.result in
     record {
-      members = member_more (cell_named c.args.classes.now) c.lines-line-items.result.now c.loop-n.n line c.in_ok-found.found c.loop-n.members c.keep.new.members _ c.loop-n-test.true c.line-item.is
-          c.in_ok-found.ensures c.in_ok-keep.ensures c.loop-n.invariant.members;
+      members = member_more (cell_named c.args.classes.now) c.lines-line-items.result.now c.loop-n.n line c.cell_named-found.result c.loop-n.members c.keep.new.members _ c.loop-n-test.true c.line-item.is
+          c.cell_named-found.ensures c.in_ok-keep.ensures c.loop-n.invariant.members;
       faults = cell_fault_more c.args.classes.now c.args.cells.now c.lines-line-items.result.now c.loop-n.n line _ c.loop-n.faults c.blame.new.faults _ c.loop-n-test.true c.line-item.is
           (ap (λ (b : Bool). unless b kind.BadMapped line.line) c.in_ok-holds.ensures) c.in_ok-blame.ensures c.loop-n.invariant.faults;
     }
@@ -28,4 +28,4 @@ returns-clause-faults c =
     ∙ ap (λ (lines : List CellLine). c.args.faults.now ++ cell_faults c.args.classes.now c.args.cells.now 0 lines) c.lines-line-items.ensures
 
 pub cell_holds-requires : goal.cell_holds-requires
-cell_holds-requires c = c.is_some.ensures ∙ ap is_some c.in_ok-found.ensures
+cell_holds-requires c = c.is_some.ensures ∙ ap is_some c.cell_named-found.ensures

@@ -8,4 +8,4 @@ pub returns : goal.returns
 returns c =
     let class : List ℕ = c.args.class.now in
     rw (← c.self.view_is)
-    (c.first.ensures.place ∙ ap (λ (words : List (List ℕ)). position (bytes_eq class) words) c.self.invariant ∙ position_of_map (bytes_eq class) (λ (line : CellLine). (cell_parts line.field).0) c.self.inside.lines.now)
+    (c.first.ensures.place ∙ ap (λ (words : List (List ℕ)). position (bytes_eq class) words) c.self.invariant.classes ∙ position_of_map (bytes_eq class) (λ (line : CellLine). (cell_parts line.field).0) c.self.inside.lines.now)

@@ -1,0 +1,1 @@
+use Rattle.kbind.proofs.classes.Classes.has_subclass.Goals as goal
