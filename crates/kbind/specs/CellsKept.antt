@@ -9,6 +9,6 @@ use Rattle.kbind.specs.Cells.{cell_parts, is_of}
 abbrev pub ArePairs : List CellLine → List (List ℕ × List ℕ) → Type 0
 ArePairs lines pairs = (class name : List ℕ) → is_among class name pairs ≡ list_any (is_of class name) lines
 
-pub record AreCells (lines : List CellLine) (classes : List (List ℕ)) (pairs : List (List ℕ × List ℕ)) : Type 0 where
-  pub classes : classes ≡ map (λ line. (cell_parts line.field).0) lines
-  pub pairs : ArePairs lines pairs
+pub record AreCells (lines : List CellLine) (words : List (List ℕ)) (parts : List (List ℕ × List ℕ)) : Type 0 where
+  pub classes : words ≡ map (λ line. (cell_parts line.field).0) lines
+  pub pairs : ArePairs lines parts

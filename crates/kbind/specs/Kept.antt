@@ -29,8 +29,8 @@ abbrev pub HaveSubclasses : World → List Bool → Type 0
 HaveSubclasses files parents = (class : ℕ) → slice_index_or parents class false ≡ has_subclass files class
 
 -- what is kept to look up classes and their members
-pub record AreKept (files : World) (texts : List (List ℕ)) (entries : List Names) (fields : List Names) (parents : List Bool) : Type 0 where
-  pub texts : AreShown files texts
-  pub entries : AreTables (entry_seen files) entries
-  pub fields : AreTables (field_seen files) fields
-  pub parents : HaveSubclasses files parents
+pub record AreKept (files : World) (shown_names : List (List ℕ)) (entry_names : List Names) (field_names : List Names) (are_parents : List Bool) : Type 0 where
+  pub texts : AreShown files shown_names
+  pub entries : AreTables (entry_seen files) entry_names
+  pub fields : AreTables (field_seen files) field_names
+  pub parents : HaveSubclasses files are_parents

@@ -1,6 +1,6 @@
 //! The classes that have direct subclasses.
 
-ghost use Rattle.std.specs.Prelude.{◌≡◌, ◌<◌, ◌||◌, ℕ, false, IfOk, IfSome, option_map, slice_index_or, vec_len};
+ghost use Rattle.std.specs.Prelude.{◌≡◌, ◌<◌, ◌||◌, ℕ, false, IfOk, IfSome, option_map, slice_index_or, length};
 ghost use Rattle.kbind.specs.Cells.{is_that};
 ghost use Rattle.kbind.specs.Kept.{HaveSubclasses};
 
@@ -10,8 +10,8 @@ use std::alloc::Global;
 
 /// Marks a class, if there is one.
 fn mark(marks: &mut Vec<bool>, class: Option<ClassId>)
-    requires { IfSome class (λ c. c.n < vec_len marks.old) }
-    ensures len { vec_len marks.new ≡ vec_len marks.old }
+    requires { IfSome class (λ c. c.n < length marks.old.items) }
+    ensures len { length marks.new.items ≡ length marks.old.items }
     ensures marks { (k : ℕ) → slice_index_or marks.new.items k false ≡ (is_that (option_map (λ c. c.n) class) k || slice_index_or marks.old.items k false) }
 {
     let Some(class) = class else {

@@ -1,11 +1,11 @@
-use Rattle.std.proofs.Common.{◌≡◌, sym, ap, cond, ◌∙◌, List, ℕ, Bool, Option, Some, map, is_some, bytes_eq, nat_cmp}
+use Rattle.std.proofs.Common.{◌≡◌, sym, ap, cond, ◌∙◌, List, ℕ, Option, Some, map, is_some, bytes_eq, nat_cmp}
 use Rattle.std.specs.Map.{lookup}
 use Rattle.std.specs.Cmp.Lexicographic.{slice_cmp}
 use Rattle.std.proofs.lemmas.Map.Text.{is_eq-slice_cmp}
 use Rattle.std.specs.BTreeMap.{is_at}
 use Rattle.classfile.proofs.Numbering.{lookup_of_map, lookup_same}
 use Rattle.kbind.specs.declared.named.Seen.{Seen}
-use Rattle.kbind.specs.Named.{seen_in, seen_before}
+use Rattle.kbind.specs.Named.{Names, seen_in}
 use Rattle.kbind.proofs.Keys.{Text, updates_text}
 use Rattle.kbind.proofs.Seeing.{seen_at, added_is}
 use Rattle.kbind.proofs.named.Named.add.Goals as goal
@@ -18,7 +18,7 @@ found name es =
 
 pub returns : goal.returns
 returns c = λ name.
-    let old = map (λ (e : Text × Seen). (e.0.items, e.1)) c.self.inside.names.entries in
+    let old : Names = map (λ (e : Text × Seen). (e.0.items, e.1)) c.self.inside.names.entries in
     let was = c.is_some-again.ensures ∙ ap is_some (c.seen.ensures ∙ ap (λ (text : List ℕ). seen_in c.args.self.now text) c.as_slice.ensures.value) in
     rw (← c.self.view_is)
     (added_is c.args.name.items name c.args.place c.is_some-again.result old _
