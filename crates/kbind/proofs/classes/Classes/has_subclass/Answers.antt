@@ -1,1 +1,0 @@
-use Rattle.kbind.proofs.classes.Classes.has_subclass.Goals as goal
