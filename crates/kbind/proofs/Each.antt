@@ -1,5 +1,5 @@
 -- Where no line has a fault, each line has its member.
-use Rattle.std.proofs.Common.{◌≡◌, ℕ, zero, suc, ◌+◌, Bool, true, false, cond, not, ◌&&◌, ◌||◌, List, [], ◌∷◌, ◌++◌, map, slice_get, position, Option, Some, None, is_some, option_map, Result, Ok, Err, IfOk, bytes_eq, refl, sym, ap, subst, ◌∙◌, arith, eq-eqb, zero-add}
+use Rattle.std.proofs.Common.{◌≡◌, ℕ, zero, suc, ◌+◌, Bool, true, false, cond, not, ◌&&◌, ◌||◌, List, [], ◌∷◌, ◌++◌, map, slice_get, position, Option, Some, None, is_some, option_map, Result, Ok, Err, IfOk, refl, sym, ap, subst, ◌∙◌, arith, eq-eqb, zero-add}
 use Rattle.std.specs.Option.{option_and_then}
 use Rattle.std.specs.List.{filter_map, flat_map, cons_option, list_any, position_from}
 use Rattle.std.proofs.lemmas.Bool.{both_ways}
@@ -10,7 +10,7 @@ use Rattle.kes_text.specs.declared.refusal.Kind.{Kind}
 use Rattle.kes_text.specs.declared.refusal.Kind.TheVariants as kind
 use Rattle.kes_text.specs.declared.refusal.Refusal.{Refusal}
 use Rattle.kes_text.specs.declared.refusal.Stop.{Stop}
-use Rattle.kes_text.specs.declared.refusal.Stop.TheVariants.{Refused, NoMemory}
+use Rattle.kes_text.specs.declared.refusal.Stop.TheVariants.{Refused}
 use Rattle.kes_text.specs.Answers.{OrNoMemory}
 use Rattle.jworld.specs.Classes.{World}
 use Rattle.kconfig.specs.declared.config.Config.{Config}
@@ -25,7 +25,7 @@ use Rattle.kbind.specs.Shown.{class_shown}
 use Rattle.kbind.specs.Methods.{declared_methods}
 use Rattle.kbind.specs.Natives.{native_named}
 use Rattle.kbind.specs.Cells.{cell_parts, cell_in, cell_named, is_cell_of, is_that, is_mapped_class, opens_class, cell_holds}
-use Rattle.kbind.specs.Objects.{class_id, object_class, object_holds, takes_base, ends_within, device_named}
+use Rattle.kbind.specs.Objects.{class_id, object_class, object_holds, device_named}
 use Rattle.kbind.specs.Portals.{portal_named}
 use Rattle.kbind.specs.Bound.{unless, entry_of, entry_faults, native_faults, cell_faults, object_faults, device_faults, portal_faults, class_faults, method_faults, faults, earliest, members, unless_fault, bound_of, is_of_mapped_class, IsBound}
 

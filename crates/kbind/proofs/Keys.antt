@@ -1,10 +1,10 @@
 -- Owned texts as keys: what a change at one leaves at the others.
-use Rattle.std.proofs.Common.{◌≡◌, ℕ, Bool, true, false, ◌&&◌, ◌||◌, cond, List, map, Vec, Bor, BTreeMap, Option, bytes_eq, nat_cmp, is_eq, refl, sym, ap, subst, ◌∙◌}
+use Rattle.std.proofs.Common.{◌≡◌, ℕ, Bool, true, false, ◌&&◌, ◌||◌, cond, List, Vec, Bor, BTreeMap, Option, bytes_eq, nat_cmp, is_eq, refl, sym, ap, subst, ◌∙◌}
 use Rattle.std.specs.declared.alloc.Global.{Global}
 use Rattle.std.specs.List.{list_any}
-use Rattle.std.specs.Map.{lookup, KeepsOthers}
+use Rattle.std.specs.Map.{KeepsOthers}
 use Rattle.std.specs.Set as set
-use Rattle.std.specs.BTreeMap.{is_at, get_by, UpdatesBy}
+use Rattle.std.specs.BTreeMap.{get_by, UpdatesBy}
 use Rattle.std.specs.HashSet as hash
 use Rattle.std.specs.Cmp.Lexicographic.{slice_cmp}
 use Rattle.std.proofs.lemmas.Map.Text.{is_eq-slice_cmp}

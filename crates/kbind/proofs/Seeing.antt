@@ -1,5 +1,5 @@
 -- Names that are seen from the last place to the first, and tables that have what is seen of a name in each class.
-use Rattle.std.proofs.Common.{◌≡◌, ℕ, zero, suc, ◌+◌, ◌-◌, ◌<◌, ◌≤◌, Bool, true, false, ◌||◌, cond, List, [], ◌∷◌, ◌++◌, length, drop, get_or, slice_get, position, Option, Some, None, is_some, option_map, nat_lt, bytes_eq, if◌then◌else◌, refl, sym, ap, subst, ◌∙◌, ⊎_elim, arith, add-one, length-append}
+use Rattle.std.proofs.Common.{◌≡◌, ℕ, zero, suc, ◌+◌, ◌-◌, ◌<◌, ◌≤◌, Bool, true, false, ◌||◌, cond, List, [], ◌∷◌, ◌++◌, length, drop, get_or, slice_get, position, Option, Some, None, is_some, option_map, nat_lt, bytes_eq, if◌then◌else◌, refl, sym, ap, ◌∙◌, ⊎_elim, arith, add-one, length-append}
 use Rattle.std.specs.Option.{option_and_then}
 use Rattle.std.specs.List.{list_any, position_from}
 use Rattle.std.proofs.lemmas.Bool.{cases_lt, le-ltb}
@@ -7,10 +7,9 @@ use Rattle.std.proofs.lemmas.Option.{slice_get_past}
 use Rattle.std.proofs.lemmas.Iterator.Adapters.{position_from-zero}
 use Rattle.std.proofs.lemmas.Slice.Eq.{bytes_eq-Decides}
 use Rattle.kconfig.proofs.Among.{bytes_eq_swap}
-use Rattle.classfile.specs.ClassFile.{ClassInfo, MethodInfo, FieldInfo}
-use Rattle.jworld.specs.declared.ids.MethodId.{MethodId}
+use Rattle.classfile.specs.ClassFile.{ClassInfo, FieldInfo}
 use Rattle.jworld.specs.Classes.{World, count, file_of, is_interface}
-use Rattle.jworld.specs.Members.{built_in_constructor, methods_in, methods_of, fields_in, fields_of, method_id, declared_method}
+use Rattle.jworld.specs.Members.{built_in_constructor, methods_in, methods_of, fields_in, method_id, declared_method}
 use Rattle.kbind.specs.declared.named.Seen.{Seen}
 use Rattle.kbind.specs.Named.{Names, seen_in, seen_before, seen_from, seen_of, only_place}
 use Rattle.kbind.specs.Entries.{is_entry_of, entry_in}

@@ -1,5 +1,5 @@
 -- Mapped classes: a cell is the place of an instance field among the device bytes of an object.
-use Rattle.std.specs.Prelude.{ℕ, ◌+◌, Bool, true, false, ◌&&◌, ◌||◌, not, ◌==◌, nat_le, List, [], drop, Option, Some, None, slice_get, position, codes, bytes_eq, is_some, if◌then◌else◌}
+use Rattle.std.specs.Prelude.{ℕ, ◌+◌, Bool, false, ◌&&◌, ◌||◌, not, ◌==◌, nat_le, List, [], drop, Option, Some, None, slice_get, position, codes, bytes_eq, is_some, if◌then◌else◌}
 use Rattle.std.specs.Option.{option_and_then}
 use Rattle.std.specs.List.{list_all, list_any, range_with_len}
 use Rattle.kes_text.specs.Shown.{shown}

@@ -1,5 +1,5 @@
 -- Which method a METHOD names.
-use Rattle.std.specs.Prelude.{ℕ, ◌+◌, Bool, List, [], ◌∷◌, ◌++◌, Option, find, is_some, not, ◌==◌, bytes_eq}
+use Rattle.std.specs.Prelude.{ℕ, ◌+◌, Bool, List, [], ◌∷◌, ◌++◌, Option, find, bytes_eq}
 use Rattle.classfile.specs.ClassFile.{ClassInfo, MethodInfo}
 use Rattle.jworld.specs.declared.ids.MethodId.{MethodId}
 use Rattle.jworld.specs.Classes.{World, is_set}

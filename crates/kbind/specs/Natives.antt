@@ -3,7 +3,6 @@ use Rattle.std.specs.Prelude.{ℕ, Bool, ◌&&◌, List, Option, Some, None, cod
 use Rattle.std.specs.Option.{option_and_then}
 use Rattle.classfile.specs.ClassFile.{MethodInfo}
 use Rattle.jworld.specs.declared.ids.MethodId.{MethodId}
-use Rattle.jworld.specs.Classes.{World}
 use Rattle.jworld.specs.Members.{is_static}
 use Rattle.kconfig.specs.declared.config.Service.{Service}
 use Rattle.kconfig.specs.declared.config.Service.TheVariants as service

@@ -1,5 +1,5 @@
 -- Texts by the place at which each stands first.
-use Rattle.std.specs.Prelude.{◌≡◌, ℕ, List, Option, Some, bytes_eq, position, if◌then◌else◌}
+use Rattle.std.specs.Prelude.{◌≡◌, ℕ, List, Option, Some, bytes_eq, if◌then◌else◌}
 use Rattle.std.specs.List.{position_from}
 use Rattle.std.specs.Map.{lookup}
 

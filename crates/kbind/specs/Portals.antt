@@ -1,6 +1,6 @@
 -- The two methods of a portal: a static native one, and a static one with code and the same descriptor in the server's domain. What
 -- they answer is no float, double or reference.
-use Rattle.std.specs.Prelude.{ℕ, Bool, true, false, ◌&&◌, List, Option, Some, None, bytes_eq, is_some, if◌then◌else◌}
+use Rattle.std.specs.Prelude.{Bool, true, false, ◌&&◌, List, Option, Some, None, bytes_eq, is_some, if◌then◌else◌}
 use Rattle.std.specs.Option.{option_and_then}
 use Rattle.classfile.specs.ClassFile.{MethodInfo}
 use Rattle.jnames.specs.declared.shape.Shape.{Shape}
@@ -8,7 +8,6 @@ use Rattle.jnames.specs.declared.shape.Shape.TheVariants as shape
 use Rattle.jnames.specs.declared.param.Param.{Param}
 use Rattle.jnames.specs.Descriptors.{Signature, signature_of}
 use Rattle.jworld.specs.declared.ids.MethodId.{MethodId}
-use Rattle.jworld.specs.Classes.{World}
 use Rattle.jworld.specs.Members.{is_static}
 use Rattle.kconfig.specs.declared.config.PortalLine.{PortalLine}
 use Rattle.kbind.specs.Methods.{Declared, method_named, is_native}

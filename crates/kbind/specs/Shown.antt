@@ -1,5 +1,5 @@
 -- Members as a configuration writes them: names in shown form.
-use Rattle.std.specs.Prelude.{ℕ, Bool, List, [], ◌∷◌, ◌++◌, Option, Some, None, position, bytes_eq}
+use Rattle.std.specs.Prelude.{ℕ, Bool, List, ◌∷◌, ◌++◌, Option, position, bytes_eq}
 use Rattle.kes_text.specs.Shown.{shown}
 use Rattle.classfile.specs.ClassFile.{ClassInfo, MethodInfo}
 use Rattle.jworld.specs.Classes.{World, names}

@@ -5,7 +5,6 @@ use Rattle.kes_text.specs.declared.refusal.Kind.TheVariants as kind
 use Rattle.kes_text.specs.declared.refusal.Stop.{Stop}
 use Rattle.kes_text.specs.declared.refusal.Stop.TheVariants.{Refused}
 use Rattle.classfile.specs.ClassFile.{ClassInfo, MethodInfo, FieldInfo}
-use Rattle.jworld.specs.declared.ids.ClassId.{ClassId}
 use Rattle.jworld.specs.Classes.{World}
 use Rattle.jworld.specs.Members.{field_id, method_id}
 use Rattle.kconfig.specs.declared.config.Config.{Config}

@@ -1,5 +1,4 @@
-use Rattle.std.proofs.Common.{sym, ap, ◌∙◌}
-use Rattle.std.specs.Option.{option_copied}
+use Rattle.std.proofs.Common.{ap, ◌∙◌}
 use Rattle.kbind.specs.Cells.{is_field_of}
 use Rattle.kbind.specs.Named.{seen_from}
 use Rattle.kbind.proofs.Seeing.{no_fields, fields_are}

@@ -1,4 +1,4 @@
-use Rattle.std.proofs.Common.{◌-◌, ◌||◌, Bool, ap, ◌∙◌, arith}
+use Rattle.std.proofs.Common.{◌-◌, ◌∙◌, arith}
 use Rattle.kbind.proofs.Searching.{one_before}
 use Rattle.kbind.specs.Cells.{is_of}
 use Rattle.kbind.proofs.mapped.all_parts.Goals as goal

@@ -1,4 +1,4 @@
-use Rattle.std.proofs.Common.{◌≡◌, ℕ, List, drop}
+use Rattle.std.proofs.Common.{drop}
 use Rattle.kbind.specs.CellsKept.{ArePairs}
 use Rattle.kbind.proofs.mapped.all_parts.Given as goal
 

@@ -1,4 +1,4 @@
-use Rattle.std.proofs.Common.{Bool, List, is_some, ap, sym, ◌∙◌, ◌≡◌, ◌++◌}
+use Rattle.std.proofs.Common.{Bool, List, is_some, ap, ◌∙◌, ◌++◌}
 use Rattle.std.specs.List.{filter_map}
 use Rattle.kes_text.specs.declared.refusal.Kind.TheVariants as kind
 use Rattle.kconfig.specs.declared.config.CellLine.{CellLine}

@@ -1,4 +1,4 @@
-use Rattle.std.proofs.Common.{sym, ◌∙◌, subst, ap, ◌≡◌, ◌++◌, List, ℕ}
+use Rattle.std.proofs.Common.{◌∙◌, ap, ◌++◌, List}
 use Rattle.kes_text.specs.Shown.{shown}
 use Rattle.classfile.specs.ClassFile.{MethodInfo}
 use Rattle.kbind.specs.Methods.{methods_from}

@@ -1,4 +1,4 @@
-use Rattle.std.proofs.Common.{ℕ, false, ◌||◌, get_or, Option, option_map, sym, ap, ◌∙◌}
+use Rattle.std.proofs.Common.{false, ◌||◌, get_or, Option, option_map, sym, ap, ◌∙◌}
 use Rattle.jworld.specs.declared.ids.ClassId.{ClassId}
 use Rattle.kbind.specs.Cells.{is_that}
 use Rattle.kbind.proofs.Marking.{marked}

@@ -1,4 +1,4 @@
-use Rattle.std.proofs.Common.{◌+◌, ◌-◌, arith, []}
+use Rattle.std.proofs.Common.{◌-◌, arith, []}
 use Rattle.kbind.proofs.Placing.{goes_on}
 use Rattle.kbind.proofs.places.first_places.Goals as goal
 

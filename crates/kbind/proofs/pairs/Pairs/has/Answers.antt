@@ -1,4 +1,4 @@
-use Rattle.std.proofs.Common.{List, ℕ, sym, ◌∙◌}
+use Rattle.std.proofs.Common.{sym, ◌∙◌}
 use Rattle.kconfig.proofs.Among.{any_of_map}
 use Rattle.kbind.specs.Pairs.{is_pair}
 use Rattle.kbind.proofs.Keys.{Key}

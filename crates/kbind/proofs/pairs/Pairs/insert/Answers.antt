@@ -1,4 +1,4 @@
-use Rattle.std.proofs.Common.{Bool, List, ℕ, ◌||◌, sym, ap, ◌∙◌}
+use Rattle.std.proofs.Common.{Bool, ◌||◌, sym, ap, ◌∙◌}
 use Rattle.kconfig.proofs.Among.{any_of_map}
 use Rattle.kbind.specs.Pairs.{is_pair}
 use Rattle.kbind.proofs.Keys.{Key, adds_pair}

@@ -1,4 +1,4 @@
-use Rattle.std.proofs.Common.{ℕ, Option, IfSome, ◌<◌, length, map, ◌∙◌, sym, subst, bytes_eq, position}
+use Rattle.std.proofs.Common.{map, ◌∙◌}
 use Rattle.kbind.proofs.Placing.{found, within}
 use Rattle.kbind.proofs.places.Index.first.Goals as goal
 
