@@ -1,17 +1,26 @@
--- Owned texts as keys: what a change at one leaves at the others.
-use Rattle.std.proofs.Common.{◌≡◌, ℕ, Bool, true, false, ◌&&◌, ◌||◌, cond, List, Vec, Bor, BTreeMap, Option, bytes_eq, nat_cmp, is_eq, refl, sym, ap, subst, ◌∙◌}
+-- Texts as keys: what a look-up finds, and what a change at one leaves at the others.
+use Rattle.std.proofs.Common.{◌≡◌, ℕ, Bool, true, false, ◌&&◌, ◌||◌, cond, List, map, Vec, Bor, BTreeMap, Option, bytes_eq, nat_cmp, is_eq, refl, sym, ap, subst, ◌∙◌}
 use Rattle.std.specs.declared.alloc.Global.{Global}
 use Rattle.std.specs.List.{list_any}
-use Rattle.std.specs.Map.{KeepsOthers}
+use Rattle.std.specs.Map.{lookup, KeepsOthers}
 use Rattle.std.specs.Set as set
-use Rattle.std.specs.BTreeMap.{get_by, UpdatesBy}
+use Rattle.std.specs.BTreeMap.{is_at, get_by, UpdatesBy}
 use Rattle.std.specs.HashSet as hash
 use Rattle.std.specs.Cmp.Lexicographic.{slice_cmp}
 use Rattle.std.proofs.lemmas.Map.Text.{is_eq-slice_cmp}
 use Rattle.std.proofs.lemmas.Bool.{and_parts}
 use Rattle.std.proofs.lemmas.Slice.Eq.{bytes_eq-Decides}
+use Rattle.classfile.proofs.Numbering.{lookup_of_map, lookup_same}
 use Rattle.kconfig.proofs.Among.{bytes_eq_swap}
 use Rattle.kbind.specs.Pairs.{is_pair}
+
+-- what a look-up in order finds of a text is what is found by its bytes
+pub found_text : {X : Type 0} (text : List ℕ) (es : List (Bor (List ℕ) × X)) → lookup (is_at (λ (k : Bor (List ℕ)). slice_cmp nat_cmp text k.now)) es ≡ lookup (bytes_eq text) (map (λ e. (e.0.now, e.1)) es)
+found_text text es =
+    lookup_same (is_at (λ (k : Bor (List ℕ)). slice_cmp nat_cmp text k.now)) (λ k. bytes_eq text k.now) (λ k. is_eq-slice_cmp text k.now) es
+    ∙ sym (lookup_of_map (bytes_eq text) (λ (k : Bor (List ℕ)). k.now) es)
+
+-- ---- owned texts
 
 abbrev pub Text : Type 0
 Text = Vec ℕ Global

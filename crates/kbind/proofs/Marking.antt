@@ -14,14 +14,6 @@ marked old i k within = by_test (eqb i k) refl
     by_test true e = subst (λ (j : ℕ). get_or (set old i true) j false ≡ true) (eqb-true i k e) (rw get_or-set_same refl)
     by_test false e = let other : k ≢ i = λ h. eqb-false i k e (sym h) in rw get_or-set_other refl
 
-pub unmarked : (n k : ℕ) → get_or (replicate n false) k false ≡ false
-unmarked zero k = refl
-unmarked (suc n) zero = refl
-unmarked (suc n) (suc k) = unmarked n k
-
-pub none_passes : (test : ℕ → Bool) (n : ℕ) → false ≡ list_any test (range_with_len n (n - n))
-none_passes test n = let none : 0 ≡ n - n = omega arith in ap (λ (k : ℕ). list_any test (range_with_len n k)) none
-
 pub one_more : (test : ℕ → Bool) (n end : ℕ) → 0 < n → n ≤ end → (test (n - 1) || list_any test (range_with_len n (end - n))) ≡ list_any test (range_with_len (n - 1) (end - (n - 1)))
 one_more test n end some within =
     let one : end - (n - 1) ≡ suc (end - n) = omega arith in

@@ -51,25 +51,3 @@ pub position_of_map : {A B : Type 0} (p : B → Bool) (f : A → B) (xs : List A
 position_of_map p f xs =
     ap (λ (n : ℕ). cond (nat_lt n (length (map f xs))) (Some n) None) (prefix_of_map (λ y. not (p y)) f xs)
     ∙ ap (λ (l : ℕ). cond (nat_lt (position_or_len (λ x. p (f x)) xs) l) (Some (position_or_len (λ x. p (f x)) xs)) None) (length-map xs f)
-
--- ---- a search from the front, one element after the other
-
-left : {A : Type 0} (xs : List A) (i : ℕ) (x : A) → i < length xs → x ≡ get_or xs i x → drop i xs ≡ x ∷ drop (i + 1) xs
-left {A} xs i x inside is = rw add-one (drop-cons xs i x inside ∙ ap (λ (y : A). y ∷ drop (suc i) xs) (sym is))
-
--- it passes over this one
-pub passed : {A : Type 0} (test : A → Bool) (xs : List A) (i : ℕ) (x : A) (answer : Bool) → i < length xs → x ≡ get_or xs i x → answer ≡ test x → answer ≡ false
-    → position_from test i (drop i xs) ≡ position_from test 0 xs → position_from test (i + 1) (drop (i + 1) xs) ≡ position_from test 0 xs
-passed {A} test xs i x answer inside is answered fails e =
-    sym (ap (λ (b : Bool). cond b (Some i) (position_from test (i + 1) (drop (i + 1) xs))) (sym answered ∙ fails)) ∙ sym (ap (position_from test i) (left xs i x inside is)) ∙ e
-
--- it ends here
-pub stopped : {A : Type 0} (test : A → Bool) (xs : List A) (i : ℕ) (x : A) (answer : Bool) → i < length xs → x ≡ get_or xs i x → answer ≡ test x → answer ≡ true
-    → position_from test i (drop i xs) ≡ position_from test 0 xs → Some i ≡ position test xs
-stopped {A} test xs i x answer inside is answered passes e =
-    sym (ap (λ (b : Bool). cond b (Some i) (position_from test (i + 1) (drop (i + 1) xs))) (sym answered ∙ passes)) ∙ sym (ap (position_from test i) (left xs i x inside is)) ∙ e
-    ∙ sym (position_from-zero test xs)
-
--- it ends with nothing
-pub missed : {A : Type 0} (test : A → Bool) (xs : List A) (i : ℕ) → length xs ≤ i → position_from test i (drop i xs) ≡ position_from test 0 xs → None ≡ position test xs
-missed test xs i past e = sym (ap (position_from test i) (drop_of_length-le xs past)) ∙ e ∙ sym (position_from-zero test xs)

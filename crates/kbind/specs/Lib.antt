@@ -11,6 +11,8 @@ pub mod Cells
 pub mod CellsKept
 pub mod Kept
 pub mod Objects
+pub mod Rooms
+pub mod Bases
 pub mod Portals
 pub mod Bound
 pub mod Worked

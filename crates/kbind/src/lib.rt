@@ -1,6 +1,7 @@
 //! The names of a configuration bound to the members of a world.
 #![tactic(auto)]
 
+mod bases;
 mod binding;
 #[cfg(test)]
 mod blinker;
@@ -19,6 +20,7 @@ mod pairs;
 mod parents;
 mod places;
 mod portals;
+mod rooms;
 #[cfg(test)]
 mod tests;
 mod worked;

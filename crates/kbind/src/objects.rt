@@ -1,62 +1,23 @@
 //! The objects of mapped classes.
 
-ghost use Rattle.std.specs.Prelude.{◌≡◌, ◌+◌, ◌++◌, ◌&&◌, IfOk, filter_map, is_some, nat_le, ◌≤◌, length};
-ghost use Rattle.std.specs.List.{list_all, list_any};
+ghost use Rattle.std.specs.Prelude.{◌≡◌, ◌++◌, ◌&&◌, IfOk, filter_map, not};
+ghost use Rattle.std.specs.List.{list_any};
 ghost use Rattle.kbind.specs.Cells.{is_cell_of};
-ghost use Rattle.kbind.specs.Objects.{object_class, takes_base, ends_within, object_holds};
+ghost use Rattle.kbind.specs.Rooms.{has_room};
+ghost use Rattle.kbind.specs.Bases.{is_taken};
+ghost use Rattle.kbind.specs.Objects.{object_class};
 ghost use Rattle.kbind.specs.Bound.{object_faults};
 
-use crate::cells::cell_parts;
+use crate::bases::Bases;
 use crate::classes::Classes;
 use crate::mapped::Cells;
 use crate::noting::{blame, keep};
+use crate::rooms::{Rooms, all_rooms};
 use jworld::ClassId;
-use kconfig::{CellLine, ObjectLine};
+use kconfig::ObjectLine;
 use kes_text::{Kind, NoMemory, Refusal};
 use sqlite_items::Items;
 use std::alloc::Global;
-
-/// Whether the three add up to the size at most.
-fn add_up_within(size: u64, base: u64, at: u64, width: u64) -> bool
-    ensures { result ≡ nat_le (base + at + width) size }
-{
-    let Some(rest) = size.checked_sub(base) else {
-        return false;
-    };
-    let Some(rest) = rest.checked_sub(at) else {
-        return false;
-    };
-    width <= rest
-}
-
-/// Whether a cell of the object's class ends within so many device bytes.
-fn ends_within(size: u64, line: &ObjectLine, cell: &CellLine) -> bool
-    ensures { result ≡ ends_within size line.now cell.now }
-{
-    let (class, _) = cell_parts(cell.field.as_slice());
-    line.class.as_slice() != class || add_up_within(size, line.base, cell.at, cell.width)
-}
-
-/// Whether each cell of the object's class does.
-fn end_within(size: u64, line: &ObjectLine, cells: &[CellLine]) -> bool
-    ensures { result ≡ list_all (ends_within size line.now) cells.now }
-{
-    cells.iter().all(|cell| ends_within(size, line, cell))
-}
-
-/// Whether a line gives another line's base to another class.
-fn takes_base(line: &ObjectLine, other: &ObjectLine) -> bool
-    ensures { result ≡ takes_base line.now other.now }
-{
-    other.base == line.base && other.class.as_slice() != line.class.as_slice()
-}
-
-/// Whether one of these lines does.
-fn take_base(line: &ObjectLine, others: &[ObjectLine]) -> bool
-    ensures { result ≡ list_any (takes_base line.now) others.now }
-{
-    others.iter().any(|other| takes_base(line, other))
-}
 
 /// Whether a CLASS has a cell line.
 fn has_cell<'t>(cells: &Cells<'t>, class: &'t [u8]) -> bool
@@ -65,20 +26,18 @@ fn has_cell<'t>(cells: &Cells<'t>, class: &'t [u8]) -> bool
     cells.first_of(class).is_some()
 }
 
-/// Whether the rule of a line holds.
+/// Whether the rule of a line holds, by what the cells leave and the bases that earlier lines have taken.
 fn object_holds<'t>(
-    size: u64,
+    rooms: &Rooms<'t>,
+    bases: &Bases<'t>,
     cells: &Cells<'t>,
-    objects: &[ObjectLine],
-    n: usize,
     line: &'t ObjectLine,
 ) -> bool
-    requires { n ≤ length objects.now }
-    ensures { result ≡ object_holds size cells.now objects.now n line.now }
+    ensures { result ≡ ((list_any (is_cell_of line.now.class) cells.now && not (is_taken bases.now line.now.base line.now.class)) && has_room rooms.now line.now.class line.now.base) }
 {
     let has_cell = has_cell(cells, line.class.as_slice());
-    let takes_base = take_base(line, &objects[..n]);
-    let ends_within = end_within(size, line, cells.lines());
+    let takes_base = bases.is_taken(line.base, line.class.as_slice());
+    let ends_within = rooms.has(line.class.as_slice(), line.base);
     has_cell && !takes_base && ends_within
 }
 
@@ -101,11 +60,14 @@ pub fn bind_objects<'t>(
     ensures members { IfOk result (λ members. members ≡ filter_map (object_class classes.now) lines.now) }
     ensures faults { IfOk result (λ _. faults.new ≡ faults.old ++ object_faults size cells.now lines.now 0 lines.now) }
 {
+    let rooms = all_rooms(alloc, size, cells.lines())?;
+    let mut bases = Bases::new(alloc);
     let mut members = Items::new(alloc);
-    for (n, line) in lines.iter().enumerate() {
-        let holds = object_holds(size, cells, lines, n, line);
+    for line in lines {
+        let holds = object_holds(&rooms, &bases, cells, line);
         blame(faults, holds, Kind::BadMapped, line.line)?;
         keep(&mut members, object_class(classes, line))?;
+        bases.add(line.base, line.class.as_slice())?;
     }
     Ok(members)
 }

@@ -1,0 +1,6 @@
+use Rattle.std.proofs.Common.{◌∙◌}
+use Rattle.kbind.proofs.Keys.{found_text}
+use Rattle.kbind.proofs.rooms.Rooms.get.Goals as goal
+
+pub returns : goal.returns
+returns c = rw (← c.self.view_is) (c.copied.ensures ∙ c.get.ensures.value ∙ found_text c.args.class.now c.self.inside.rooms.entries)
