@@ -1,7 +1,6 @@
 -- Marks of the classes that are superclasses, from the last class to the first.
-use Rattle.std.proofs.Common.{◌≡◌, ◌≢◌, ℕ, zero, suc, ◌+◌, ◌-◌, ◌<◌, ◌≤◌, Bool, true, false, ◌||◌, List, ◌++◌, length, get_or, set, Option, Some, None, IfSome, option_map, option_to_list, eqb, refl, sym, ap, subst, ◌∙◌, arith, get_or-set_same, get_or-set_other}
+use Rattle.std.proofs.Common.{◌≡◌, ◌≢◌, ℕ, suc, ◌+◌, ◌-◌, ◌<◌, ◌≤◌, Bool, true, false, ◌||◌, List, ◌++◌, length, get_or, set, Option, Some, None, IfSome, option_map, option_to_list, eqb, refl, sym, ap, subst, ◌∙◌, arith, get_or-set_same, get_or-set_other}
 use Rattle.std.specs.List.{list_any, range_with_len, All}
-use Rattle.std.proofs.Math.ListN.{replicate}
 use Rattle.std.proofs.lemmas.Bool.{eqb-true, eqb-false}
 use Rattle.jworld.specs.declared.ids.ClassId.{ClassId}
 use Rattle.jworld.specs.Classes.{World, count, super_of, interfaces_of}
