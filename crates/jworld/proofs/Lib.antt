@@ -15,6 +15,8 @@ pub mod Acyclic
 pub mod Settled
 pub mod Searching
 pub mod Owners
+pub mod Placing
+pub mod Finding
 pub mod Numbers
 pub mod AloneMore
 pub mod Slashes

@@ -13,6 +13,8 @@ pub mod Methods
 pub mod Subtype
 pub mod Packages
 pub mod Alone
+pub mod Keyed
+pub mod Found
 pub mod Faults
 pub mod Worked
 pub mod Held

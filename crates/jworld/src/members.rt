@@ -1,24 +1,12 @@
 //! The fields and methods that a class itself declares (JVMS SE 8, 4.5 and 4.6).
 
-ghost use Rattle.std.specs.Prelude.{◌≡◌, ◌&&◌, not, position, nat_lt, Some, None, if◌then◌else◌};
-ghost use Rattle.jworld.specs.Members.{is_field, is_method, is_inherited, is_abstract, built_in_constructor};
+ghost use Rattle.std.specs.Prelude.{◌≡◌, ◌&&◌, nat_lt, Some, None, if◌then◌else◌};
+ghost use Rattle.jworld.specs.Members.{is_method, is_inherited, is_abstract, built_in_constructor};
 
 use crate::classes::BUILT_IN_COUNT;
 use crate::ids::ClassId;
-use classfile::{Access, Field, Method};
-use jnames::{FieldKey, MethodKey};
-
-fn is_field(field: &Field<'_>, key: &FieldKey) -> bool
-    ensures { result ≡ is_field key.now field.now }
-{
-    field.name == key.name.as_slice() && field.descriptor == key.descriptor.as_slice()
-}
-
-fn is_method(method: &Method<'_>, key: &MethodKey) -> bool
-    ensures { result ≡ is_method key.now method.now }
-{
-    method.name == key.name.as_slice() && method.descriptor == key.descriptor.as_slice()
-}
+use classfile::{Access, Method};
+use jnames::MethodKey;
 
 /// Whether a method is an instance method that isn't private.
 pub fn is_inherited(method: &Method<'_>) -> bool
@@ -28,42 +16,11 @@ pub fn is_inherited(method: &Method<'_>) -> bool
     flags & Access::PRIVATE.bits == 0 && flags & Access::STATIC.bits == 0
 }
 
-fn is_abstract(method: &Method<'_>) -> bool
+/// Whether a method is abstract.
+pub fn is_abstract(method: &Method<'_>) -> bool
     ensures { result ≡ is_abstract method.now }
 {
     method.flags.bits & Access::ABSTRACT.bits != 0
-}
-
-/// The place of the field of a name and a descriptor.
-pub fn field_place(fields: &[Field<'_>], key: &FieldKey) -> Option<usize>
-    ensures { result ≡ position (is_field key.now) fields.now }
-{
-    fields.iter().position(|field| is_field(field, key))
-}
-
-/// The place of the method of a name and a descriptor.
-pub fn method_place(methods: &[Method<'_>], key: &MethodKey) -> Option<usize>
-    ensures { result ≡ position (is_method key.now) methods.now }
-{
-    methods.iter().position(|method| is_method(method, key))
-}
-
-/// The same, if it is an instance method that isn't private.
-pub fn inherited_place(methods: &[Method<'_>], key: &MethodKey) -> Option<usize>
-    ensures { result ≡ position (λ method. is_method key.now method && is_inherited method) methods.now }
-{
-    methods
-        .iter()
-        .position(|method| is_method(method, key) && is_inherited(method))
-}
-
-/// The same, if it is abstract no more.
-pub fn concrete_place(methods: &[Method<'_>], key: &MethodKey) -> Option<usize>
-    ensures { result ≡ position (λ method. is_method key.now method && is_inherited method && not (is_abstract method)) methods.now }
-{
-    methods.iter().position(|method| is_method(method, key)
-        && is_inherited(method)
-        && !is_abstract(method))
 }
 
 /// Whether a key is that of the constructor which each built-in class has.

@@ -1,12 +1,13 @@
 //! A world of classes that fit together.
 
-ghost use Rattle.std.specs.Prelude.{◌≡◌, ◌≤◌, None, IfSome, IfOk, IfErr, ◌+◌, length, option_map, slice_index_or, []};
+ghost use Rattle.std.specs.Prelude.{◌≡◌, ◌≤◌, None, IfSome, IfOk, IfErr, ◌+◌, length, option_map, position, slice_index_or, []};
 ghost use Rattle.std.specs.Option.{option_copied};
 ghost use Rattle.jworld.specs.Classes.{names, class_named, file_of, super_of, interfaces_of, is_interface, count};
 ghost use Rattle.jworld.specs.Upwards.{is_subclass};
 ghost use Rattle.jworld.specs.Above.{is_above, TellsAbove};
 ghost use Rattle.jworld.specs.Superinterfaces.{superinterfaces};
-ghost use Rattle.jworld.specs.Members.{is_method, declared_field, declared_method};
+ghost use Rattle.jworld.specs.Members.{is_field, is_method, fields_of, methods_in, declared_field, declared_method};
+ghost use Rattle.jworld.specs.Found.{is_method_named};
 ghost use Rattle.jworld.specs.Fields.{first_found, resolved_field};
 ghost use Rattle.jworld.specs.Passed.{FindNothing};
 ghost use Rattle.jworld.specs.Methods.{inherited_method, concrete_method, selected_method};
@@ -18,8 +19,9 @@ use crate::classes::Classes;
 use crate::closure::Closure;
 use crate::cycles::cycle_fault;
 use crate::faults::{first_large_fault, first_supers_fault};
+use crate::found::{AllFound, Wanted};
 use crate::ids::{ClassId, FieldId, MethodId};
-use crate::members::{built_in_place, concrete_place, field_place, inherited_place, method_place};
+use crate::members::built_in_place;
 use crate::passed::Passed;
 use crate::splits::split_fault;
 use crate::superinterfaces::all_superinterfaces;
@@ -37,6 +39,7 @@ pub struct World<'a> {
     classes: Classes<'a>,
     above: Closure,
     superinterfaces: Items<Items<u32>>,
+    found: AllFound<'a>,
 }
 
 impl<'a> Model for World<'a> {
@@ -47,7 +50,7 @@ impl<'a> Model for World<'a> {
 
     ghost view = { λ w. w.classes };
 
-    ghost invariant = { λ w. IsWorld w.classes w.above w.superinterfaces };
+    ghost invariant = { λ w. IsWorld w.classes w.above w.superinterfaces w.found };
 }
 
 /// Why classes of different names don't fit together.
@@ -86,10 +89,12 @@ impl<'a> World<'a> {
             Some(fault) => Err(Stop::Refused(fault)),
             None => {
                 let superinterfaces = all_superinterfaces(alloc, &classes, &above)?;
+                let found = AllFound::of(alloc, &classes)?;
                 Ok(World {
                     classes,
                     above,
                     superinterfaces,
+                    found,
                 })
             }
         }
@@ -191,12 +196,42 @@ impl<'a> World<'a> {
         self.classes.is_interface(class)
     }
 
+    /// The place of a field in the file of a class.
+    fn field_place(&self, class: ClassId, key: &FieldKey) -> Option<usize>
+        ensures { result ≡ position (is_field key.now) (fields_of self.now class.n) }
+    {
+        self.found
+            .field(class, key.name.as_slice(), key.descriptor.as_slice())
+    }
+
+    /// The place of the first method in the file of a class that is wanted.
+    fn place_in_file(&self, class: ClassId, which: Wanted, key: &MethodKey) -> Option<usize>
+        ensures { result ≡ position (is_method_named which key.now.name key.now.descriptor) (methods_in (file_of self.now class.n)) }
+    {
+        self.found.method(class, which, key.name.as_slice(), key.descriptor.as_slice())
+    }
+
     /// The field of a name and a descriptor that a class itself declares.
     pub fn declared_field(&self, class: ClassId, key: &FieldKey) -> Option<FieldId>
         ensures { result ≡ declared_field self.now key.now class.n }
     {
-        let place = field_place(self.get(class)?.fields(), key)?;
+        let _file = self.get(class)?;
+        let place = self.field_place(class, key)?;
         Some(FieldId {
+            class,
+            n: place as u16,
+        })
+    }
+
+    /// The first method of a class that is wanted.
+    fn wanted_method(&self, class: ClassId, which: Wanted, key: &MethodKey) -> Option<MethodId>
+        ensures { result ≡ declared_method self.now (is_method_named which key.now.name key.now.descriptor) class.n }
+    {
+        let place = match self.get(class) {
+            Some(_file) => self.place_in_file(class, which, key)?,
+            None => built_in_place(class, key)?,
+        };
+        Some(MethodId {
             class,
             n: place as u16,
         })
@@ -206,42 +241,21 @@ impl<'a> World<'a> {
     pub fn declared_method(&self, class: ClassId, key: &MethodKey) -> Option<MethodId>
         ensures { result ≡ declared_method self.now (is_method key.now) class.n }
     {
-        let place = match self.get(class) {
-            Some(file) => method_place(file.methods(), key)?,
-            None => built_in_place(class, key)?,
-        };
-        Some(MethodId {
-            class,
-            n: place as u16,
-        })
+        self.wanted_method(class, Wanted::Any, key)
     }
 
     /// The same, if it is an instance method that isn't private.
     pub fn inherited_method(&self, class: ClassId, key: &MethodKey) -> Option<MethodId>
         ensures { result ≡ inherited_method self.now key.now class.n }
     {
-        let place = match self.get(class) {
-            Some(file) => inherited_place(file.methods(), key)?,
-            None => built_in_place(class, key)?,
-        };
-        Some(MethodId {
-            class,
-            n: place as u16,
-        })
+        self.wanted_method(class, Wanted::Inherited, key)
     }
 
     /// The same, if it is abstract no more.
     pub fn concrete_method(&self, class: ClassId, key: &MethodKey) -> Option<MethodId>
         ensures { result ≡ concrete_method self.now key.now class.n }
     {
-        let place = match self.get(class) {
-            Some(file) => concrete_place(file.methods(), key)?,
-            None => built_in_place(class, key)?,
-        };
-        Some(MethodId {
-            class,
-            n: place as u16,
-        })
+        self.wanted_method(class, Wanted::Concrete, key)
     }
 
     /// The method that a receiver of a class runs (JVMS SE 8, 5.4.6): the first from its class upwards that is an

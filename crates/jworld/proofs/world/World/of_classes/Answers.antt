@@ -16,6 +16,7 @@ invariant_of-result c = record {
   faultless = is_faultless c.args.classes.items c.in_ok-classes.classes c.in_ok-classes.ensures (sym c.in-None.is ∙ c.in_ok-fault.ensures);
   above = c.in_ok-above.ensures;
   superinterfaces = c.in_ok-superinterfaces-in-None.ensures;
+  found = c.in_ok-found-in-None.ensures;
 }
 
 pub returns : goal.returns

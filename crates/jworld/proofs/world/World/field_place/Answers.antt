@@ -1,0 +1,6 @@
+use Rattle.std.proofs.Common.{◌∙◌}
+use Rattle.jworld.proofs.world.World.field_place.Goals as goal
+
+pub returns : goal.returns
+returns c =
+    rw (← c.self.view_is) ((rw (c.as_slice.ensures, c.as_slice-2.ensures) at c.field.ensures) ∙ (c.self.invariant.found c.args.class.n).fields c.args.key.now.name c.args.key.now.descriptor)
