@@ -1,0 +1,4 @@
+pub mod ArrayNames
+pub mod Putting
+pub mod Reversal
+pub mod Reversed
