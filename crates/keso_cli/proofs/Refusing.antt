@@ -1,5 +1,5 @@
 -- Why an input that wasn't compiled is refused.
-use Rattle.std.proofs.Common.{◌≡◌, ℕ, zero, suc, ◌+◌, ◌-◌, ◌<◌, ◌≤◌, List, [], ◌∷◌, length, map, take, drop, get_or, Option, Some, None, Result, Ok, Err, refl, sym, ap, subst, ◌∙◌, arith}
+use Rattle.std.proofs.Common.{◌≡◌, ℕ, zero, suc, ◌+◌, ◌-◌, ◌<◌, ◌≤◌, List, [], ◌∷◌, ◌++◌, length, map, take, drop, get_or, Option, Some, None, Result, Ok, Err, refl, sym, ap, subst, ◌∙◌, arith}
 use Rattle.std.specs.Prelude.{unwrap_or, is_none, option_map, slice_index_or, if◌then◌else◌}
 use Rattle.std.specs.Option.{option_or}
 use Rattle.std.specs.Result.{result_ok}
@@ -7,6 +7,8 @@ use Rattle.classfile.specs.ClassFile.{ClassInfo}
 use Rattle.classfile.specs.Pool.{◌>>=◌}
 use Rattle.classfile.specs.Reading.{class_file}
 use Rattle.jworld.specs.Faults.{world_fault}
+use Rattle.jworld.specs.declared.ids.MethodId.{MethodId}
+use Rattle.kbind.specs.declared.bound.Bound.{Bound}
 use Rattle.kbind.specs.Bound.{bound_of}
 use Rattle.kconfig.specs.declared.config.Config.{Config}
 use Rattle.kes_text.specs.declared.refusal.Refusal.{Refusal}
@@ -20,14 +22,20 @@ use Rattle.first_form.specs.Configuration.{configuration}
 use Rattle.first_form.specs.Class.{class_of}
 use Rattle.first_form.specs.Config.{config_of}
 use Rattle.first_form.specs.Fits.{if_they_fit, only_class, first_form}
-use Rattle.keso_cli.specs.Refusals.{IsAccepted, fault_of, first_fault, classes_in, of_class_file, world_refusal, binding_refusal, later, refusal_of, name_of}
-use Rattle.keso_cli.specs.Stops.{FileStops, ClassesStop, CompileStops}
-use Rattle.keso_cli.specs.Taken.{IsTaken}
+use Rattle.keso_cli.specs.Refusals.{IsAccepted, fault_of, first_fault, classes_in, of_class_file, world_refusal, binding_refusal, typing_fault, first_untyped, entries_in, entries_refusal, later, refusal_of, name_of}
+use Rattle.keso_cli.specs.Stops.{FileStops, ClassesStop, FaultStops, CompileStops}
+use Rattle.keso_cli.specs.Taken.{IsBoundTo, IsTaken}
+use Rattle.keso_cli.proofs.Worlds.{config_is}
 use Rattle.first_form.proofs.Headline.Inversion.{none_is_some}
 
 pub never_fits : (config : Option FirstConfig) → if_they_fit config None ≡ None
 never_fits None = refl
 never_fits (Some config) = refl
+
+-- of two faults neither is there
+neither : (one other : Option Refusal) → option_or one other ≡ None → (one ≡ None) × (other ≡ None)
+neither None other e = (refl, e)
+neither (Some r) other e = absurd (none_is_some r (sym e))
 
 -- a fault has its file's number
 file_is : {A : Type 0} (number : ℕ) (read : Result A Stop) (r : Refusal) → fault_of number read ≡ Some r → number ≡ r.file
@@ -39,8 +47,11 @@ file_is number (Err (stop.Refused fault)) r e = ap (λ o. (unwrap_or o r).file) 
 abbrev unless_form : Option (FirstConfig × FirstClass) → Option Refusal
 unless_form form = if is_none form then Some later else None
 
+abbrev when_bound : Result Config Stop → List ClassInfo → Option (FirstConfig × FirstClass) → Option Refusal
+when_bound read classes form = option_or (result_ok read >>= entries_refusal classes) (unless_form form)
+
 abbrev in_world : Result Config Stop → List ClassInfo → Option (FirstConfig × FirstClass) → Option Refusal
-in_world read classes form = option_or (world_refusal classes) (option_or (result_ok read >>= binding_refusal classes) (unless_form form))
+in_world read classes form = option_or (world_refusal classes) (option_or (result_ok read >>= binding_refusal classes) (when_bound read classes form))
 
 config_refused : (text : List ℕ) (files : List (List ℕ)) (r : Refusal) → fault_of 0 (configuration text) ≡ Some r → refusal_of text files ≡ Some r
 unfolding refusal_of
@@ -159,37 +170,108 @@ read_refused text files config classes ok e =
     ∙ ap (λ cs. in_world (Ok config) cs (first_form text files)) (are_read files classes e)
     ∙ ap (in_world (Ok config) classes) (form_is text files config classes ok e)
 
+-- the form of what is read
+abbrev form_of : Config → List ClassInfo → Option (FirstConfig × FirstClass)
+form_of config classes = if_they_fit (config_of config) (only_class classes)
+
 -- classes that are no world
 pub world_stops : (trouble : Trouble) (config : List ℕ) (names : List (List ℕ)) (text : List ℕ) (files : List (List ℕ)) (read : Config) (classes : List ClassInfo)
     → configuration text ≡ Ok read → map class_file files ≡ map Ok classes → ClassesStop trouble names (world_refusal classes) → CompileStops trouble config names text files
 world_stops trouble config names text files read classes ok e h =
     class_file_stops trouble config names text files (world_refusal classes)
-    (λ r is. read_refused text files read classes ok e ∙ ap (λ fault. option_or fault (option_or (binding_refusal classes read) (unless_form (if_they_fit (config_of read) (only_class classes))))) is) h
+    (λ r is. read_refused text files read classes ok e ∙ ap (λ fault. option_or fault (option_or (binding_refusal classes read) (when_bound (Ok read) classes (form_of read classes)))) is) h
+
+-- why an input is refused whose classes are a world
+world_refused : (text : List ℕ) (files : List (List ℕ)) (config : Config) (classes : List ClassInfo) → configuration text ≡ Ok config → map class_file files ≡ map Ok classes → world_fault classes ≡ None
+    → refusal_of text files ≡ option_or (binding_refusal classes config) (when_bound (Ok config) classes (form_of config classes))
+world_refused text files config classes ok e world =
+    read_refused text files config classes ok e
+    ∙ ap (λ fault. option_or (option_map of_class_file fault) (option_or (binding_refusal classes config) (when_bound (Ok config) classes (form_of config classes)))) world
 
 -- a configuration that can't be bound to their world
 pub binding_stops : (trouble : Trouble) (config : List ℕ) (names : List (List ℕ)) (text : List ℕ) (files : List (List ℕ)) (read : Config) (classes : List ClassInfo)
     → configuration text ≡ Ok read → map class_file files ≡ map Ok classes → world_fault classes ≡ None → FileStops trouble 0 config (bound_of classes read) → CompileStops trouble config names text files
 binding_stops trouble config names text files read classes ok e world h =
     file_stops trouble config names text files (bound_of classes read)
-    (λ r is. read_refused text files read classes ok e
-    ∙ ap (λ fault. option_or (option_map of_class_file fault) (option_or (binding_refusal classes read) (unless_form (if_they_fit (config_of read) (only_class classes))))) world
-    ∙ ap (λ fault. option_or fault (unless_form (if_they_fit (config_of read) (only_class classes)))) is) h
+    (λ r is. world_refused text files read classes ok e world ∙ ap (λ fault. option_or fault (when_bound (Ok read) classes (form_of read classes))) is) h
+
+-- what was read, made a world and bound to it
+pub are_bound : (text : List ℕ) (files : List (List ℕ)) (config : Config) (classes world : List ClassInfo) (bound : Bound) → configuration text ≡ Ok config → map class_file files ≡ map Ok classes → world_fault classes ≡ None
+    → world ≡ classes → bound_of world config ≡ Ok bound → IsBoundTo text files bound world
+are_bound text files config classes world bound ok e faultless same is =
+    let config_same = config_is world config bound is in
+    record {
+      config_is = ok ∙ ap Ok (sym config_same);
+      classes_are = e ∙ ap (map Ok) (sym same);
+      are_world = ap world_fault same ∙ faultless;
+      is_bound = ap (bound_of world) config_same ∙ is;
+    }
+
+-- why an input is refused that is bound
+bound_refused : (text : List ℕ) (files : List (List ℕ)) (bound : Bound) (classes : List ClassInfo) → IsBoundTo text files bound classes
+    → refusal_of text files ≡ option_or (first_untyped classes bound.entries) (unless_form (form_of bound.config classes))
+bound_refused text files bound classes to =
+    world_refused text files bound.config classes to.config_is to.classes_are to.are_world
+    ∙ ap (λ answer. option_or (fault_of 0 answer) (option_or (first_untyped classes (entries_in answer)) (unless_form (form_of bound.config classes)))) to.is_bound
+
+-- the refusal of a fault that comes first
+fault_stops : (trouble : Trouble) (config : List ℕ) (names : List (List ℕ)) (text : List ℕ) (files : List (List ℕ)) (fault : Option Refusal)
+    → ((r : Refusal) → fault ≡ Some r → refusal_of text files ≡ Some r) → FaultStops trouble config names fault → CompileStops trouble config names text files
+fault_stops (Refused refusal name) config names text files fault refused h = (h.0, refused refusal h.1)
+fault_stops NoMemory config names text files fault refused h = tt
+fault_stops Usage config names text files fault refused h = absurd h
+fault_stops (CannotRead name) config names text files fault refused h = absurd h
+fault_stops (CannotWrite name) config names text files fault refused h = absurd h
+fault_stops CannotWriteOutput config names text files fault refused h = absurd h
+
+-- a task's entry that isn't typed
+pub entries_stop : (trouble : Trouble) (config : List ℕ) (names : List (List ℕ)) (text : List ℕ) (files : List (List ℕ)) (bound : Bound) (classes : List ClassInfo)
+    → IsBoundTo text files bound classes → FaultStops trouble config names (first_untyped classes bound.entries) → CompileStops trouble config names text files
+entries_stop trouble config names text files bound classes to h =
+    fault_stops trouble config names text files (first_untyped classes bound.entries)
+    (λ r fault. bound_refused text files bound classes to ∙ ap (λ o. option_or o (unless_form (form_of bound.config classes))) fault) h
+
+-- the first of methods that isn't typed, behind those that are
+at_untyped : (world : List ClassInfo) (i : ℕ) (entries : List MethodId) (other : MethodId) (r : Refusal) → first_untyped world (take i entries) ≡ None
+    → i < length entries → typing_fault world (get_or entries i other) ≡ Some r → first_untyped world entries ≡ Some r
+at_untyped world i [] other r typed lt e = absurd (omega (lt, arith))
+at_untyped world zero (entry ∷ entries) other r typed lt e = ap (λ fault. option_or fault (first_untyped world entries)) e
+at_untyped world (suc i) (entry ∷ entries) other r typed lt e =
+    let both = neither (typing_fault world entry) (first_untyped world (take i entries)) typed in
+    ap (λ fault. option_or fault (first_untyped world entries)) both.0 ∙ at_untyped world i entries other r both.1 (omega (lt, arith)) e
+
+pub untyped_stops : (world : List ClassInfo) (i : ℕ) (entries : List MethodId) (other : MethodId) (trouble : Trouble) (config : List ℕ) (names : List (List ℕ)) → first_untyped world (take i entries) ≡ None
+    → i < length entries → FaultStops trouble config names (typing_fault world (get_or entries i other)) → FaultStops trouble config names (first_untyped world entries)
+untyped_stops world i entries other (Refused refusal name) config names typed lt h = (h.0, at_untyped world i entries other refusal typed lt h.1)
+untyped_stops world i entries other NoMemory config names typed lt h = tt
+untyped_stops world i entries other Usage config names typed lt h = absurd h
+untyped_stops world i entries other (CannotRead name) config names typed lt h = absurd h
+untyped_stops world i entries other (CannotWrite name) config names typed lt h = absurd h
+untyped_stops world i entries other CannotWriteOutput config names typed lt h = absurd h
+
+-- methods that are typed, and one more
+pub one_more_typed : (world : List ClassInfo) (i : ℕ) (entries : List MethodId) (other : MethodId) → first_untyped world (take i entries) ≡ None
+    → i < length entries → typing_fault world (get_or entries i other) ≡ None → first_untyped world (take (suc i) entries) ≡ None
+one_more_typed world i [] other typed lt e = absurd (omega (lt, arith))
+one_more_typed world zero (entry ∷ entries) other typed lt e = ap (λ fault. option_or fault None) e
+one_more_typed world (suc i) (entry ∷ entries) other typed lt e =
+    let both = neither (typing_fault world entry) (first_untyped world (take i entries)) typed in
+    ap (λ fault. option_or fault (first_untyped world (take (suc i) entries))) both.0 ∙ one_more_typed world i entries other both.1 (omega (lt, arith)) e
 
 -- why an input that is taken is refused: it isn't of the first form
-taken_refused : (text : List ℕ) (files : List (List ℕ)) (config : Config) (classes : List ClassInfo) → IsTaken text files config classes
-    → refusal_of text files ≡ unless_form (if_they_fit (config_of config) (only_class classes))
-taken_refused text files config classes taken =
-    read_refused text files config classes taken.config_is taken.classes_are
-    ∙ ap (λ fault. option_or (option_map of_class_file fault) (option_or (binding_refusal classes config) (unless_form (if_they_fit (config_of config) (only_class classes))))) taken.are_world
-    ∙ ap (λ fault. option_or fault (unless_form (if_they_fit (config_of config) (only_class classes)))) taken.is_bound
+taken_refused : (text : List ℕ) (files : List (List ℕ)) (bound : Bound) (classes : List ClassInfo) → IsTaken text files bound classes
+    → refusal_of text files ≡ unless_form (form_of bound.config classes)
+taken_refused text files bound classes taken =
+    bound_refused text files bound classes taken.bound_to
+    ∙ ap (λ fault. option_or fault (unless_form (form_of bound.config classes))) taken.are_typed
 
-pub comes_later : (text : List ℕ) (files : List (List ℕ)) (config : Config) (classes : List ClassInfo) → IsTaken text files config classes
-    → if_they_fit (config_of config) (only_class classes) ≡ None → refusal_of text files ≡ Some later
-comes_later text files config classes taken none = taken_refused text files config classes taken ∙ ap unless_form none
+pub comes_later : (text : List ℕ) (files : List (List ℕ)) (bound : Bound) (classes : List ClassInfo) → IsTaken text files bound classes
+    → if_they_fit (config_of bound.config) (only_class classes) ≡ None → refusal_of text files ≡ Some later
+comes_later text files bound classes taken none = taken_refused text files bound classes taken ∙ ap unless_form none
 
-pub is_accepted : (text : List ℕ) (files : List (List ℕ)) (config : Config) (classes : List ClassInfo) (first : FirstConfig) (second : FirstClass) → IsTaken text files config classes
-    → if_they_fit (config_of config) (only_class classes) ≡ Some (first, second) → IsAccepted text files first second
-is_accepted text files config classes first second taken form = record {
-  of_form = form_is text files config classes taken.config_is taken.classes_are ∙ form;
-  faultless = taken_refused text files config classes taken ∙ ap unless_form form;
+pub is_accepted : (text : List ℕ) (files : List (List ℕ)) (bound : Bound) (classes : List ClassInfo) (first : FirstConfig) (second : FirstClass) → IsTaken text files bound classes
+    → if_they_fit (config_of bound.config) (only_class classes) ≡ Some (first, second) → IsAccepted text files first second
+is_accepted text files bound classes first second taken form = record {
+  of_form = form_is text files bound.config classes taken.bound_to.config_is taken.bound_to.classes_are ∙ form;
+  faultless = taken_refused text files bound classes taken ∙ ap unless_form form;
 }

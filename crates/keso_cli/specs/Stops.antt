@@ -36,11 +36,15 @@ ClassesStop (Refused refusal refused) names fault =
 ClassesStop NoMemory names fault = Unit {0}
 ClassesStop _ names fault = ⊥
 
+-- There is this fault, and the file of its number, the configuration or a class file, has one of these names.
+abbrev pub FaultStops : Trouble → List ℕ → List (List ℕ) → Option Refusal → Type 0
+FaultStops (Refused refusal name) config classes fault = (name.now ≡ name_of config classes refusal.file) × (fault ≡ Some refusal)
+FaultStops NoMemory config classes fault = Unit {0}
+FaultStops _ config classes fault = ⊥
+
 -- The input of these names, a configuration's text and the bytes of classes, isn't compiled.
 abbrev pub CompileStops : Trouble → List ℕ → List (List ℕ) → List ℕ → List (List ℕ) → Type 0
-CompileStops (Refused refusal name) config classes text bytes = (name.now ≡ name_of config classes refusal.file) × (refusal_of text bytes ≡ Some refusal)
-CompileStops NoMemory config classes text bytes = Unit {0}
-CompileStops _ config classes text bytes = ⊥
+CompileStops trouble config classes text bytes = FaultStops trouble config classes (refusal_of text bytes)
 
 -- A text isn't written to its file.
 abbrev pub WriteStops : Trouble → Text → FilesSeen → FilesSeen → Type 0

@@ -1,14 +1,21 @@
--- An input that is taken: a configuration and classes without a fault, which are a world to which it can be bound.
+-- An input that is taken: a configuration that is bound to a world of classes, in which each task's entry is typed.
 use Rattle.std.specs.Prelude.{◌≡◌, ℕ, List, map, None, Ok}
 use Rattle.classfile.specs.ClassFile.{ClassInfo}
 use Rattle.classfile.specs.Reading.{class_file}
 use Rattle.jworld.specs.Faults.{world_fault}
-use Rattle.kconfig.specs.declared.config.Config.{Config}
+use Rattle.kbind.specs.declared.bound.Bound.{Bound}
+use Rattle.kbind.specs.Bound.{bound_of}
 use Rattle.first_form.specs.Configuration.{configuration}
-use Rattle.keso_cli.specs.Refusals.{binding_refusal}
+use Rattle.keso_cli.specs.Refusals.{first_untyped}
 
-pub record IsTaken (text : List ℕ) (files : List (List ℕ)) (config : Config) (classes : List ClassInfo) : Type 0 where
-  pub config_is : configuration text ≡ Ok config
+-- a configuration and classes without a fault, which are a world to which it is bound
+pub record IsBoundTo (text : List ℕ) (files : List (List ℕ)) (bound : Bound) (classes : List ClassInfo) : Type 0 where
+  pub config_is : configuration text ≡ Ok bound.config
   pub classes_are : map class_file files ≡ map Ok classes
   pub are_world : world_fault classes ≡ None
-  pub is_bound : binding_refusal classes config ≡ None
+  pub is_bound : bound_of classes bound.config ≡ Ok bound
+
+pub record IsTaken (text : List ℕ) (files : List (List ℕ)) (bound : Bound) (classes : List ClassInfo) : Type 0 where
+  pub bound_to : IsBoundTo text files bound classes
+  -- each task's entry is typed
+  pub are_typed : first_untyped classes bound.entries ≡ None

@@ -1,23 +1,24 @@
 //! The input of a build: a configuration that is bound to a world of classes, or the first of its faults.
 
-ghost use Rattle.std.specs.Prelude.{◌≡◌, ◌+◌, ◌≤◌, [], length, map, slice_index_or, string_bytes, None, Ok, IfOk, IfErr};
+ghost use Rattle.std.specs.Prelude.{◌≡◌, ◌+◌, ◌≤◌, [], length, map, slice_index_or, string_bytes, None, Ok, IfOk, IfErr, OnOk};
 ghost use Rattle.classfile.specs.Reading.{class_file};
 ghost use Rattle.jworld.specs.Faults.{world_fault};
 ghost use Rattle.kbind.specs.Bound.{bound_of};
 ghost use Rattle.first_form.specs.Configuration.{configuration};
-ghost use Rattle.keso_cli.specs.Refusals.{first_fault, world_refusal, binding_refusal};
+ghost use Rattle.keso_cli.specs.Refusals.{first_fault, world_refusal, name_of, file_number, typing_fault, first_untyped};
 ghost use Rattle.keso_cli.specs.Request.{most_classes};
-ghost use Rattle.keso_cli.specs.Stops.{FileStops, ClassesStop, CompileStops};
+ghost use Rattle.keso_cli.specs.Stops.{FileStops, ClassesStop, FaultStops, CompileStops};
 ghost use Rattle.keso_cli.specs.Taken.{IsTaken};
 
 use crate::inputs::Classes;
 use crate::trouble::Trouble;
 use crate::words::Build;
 use classfile::{Class, read_class};
-use jworld::World;
+use jworld::{MethodId, World};
 use kbind::{Bound, bind};
 use kconfig::{Config, read_config};
 use kes_text::{Refusal, Stop};
+use method_typing::type_method;
 use std::alloc::Global;
 
 /// A configuration that is bound to a world of classes.
@@ -130,6 +131,75 @@ fn bound_in<'a>(
     }
 }
 
+/// The configuration bound to the world.
+fn bound_input<'a, 'b>(
+    alloc: Global,
+    name: &'a str,
+    config: Config,
+    world: World<'b>,
+) -> Result<Input<'b>, Trouble<'a>>
+    ensures same { IfOk result (λ input. input.world ≡ world.entry) }
+    ensures ok { IfOk result (λ input. bound_of world.entry config ≡ Ok input.bound) }
+    ensures stop { IfErr result (λ trouble. FileStops trouble 0 name.now (bound_of world.entry config)) }
+{
+    let bound = bound_in(alloc, name, config, &world)?;
+    Ok(Input { world, bound })
+}
+
+/// The name of a file by its number: the configuration is 0, and the first class file 1.
+fn file_name<'a>(names: Build<'a>, number: u32) -> &'a str
+    ensures { result.now ≡ name_of names.entry.config.now (map string_bytes names.entry.classes.now) number }
+{
+    match number {
+        0 => names.config,
+        _ => class_name(names, number as usize - 1),
+    }
+}
+
+/// The number of the file of a method's class.
+fn file_number(method: MethodId) -> u32
+    ensures { result ≡ file_number method }
+{
+    method.class.n.saturating_sub(3)
+}
+
+/// Checks the code of a task's entry.
+fn entry_in<'a>(
+    alloc: Global,
+    names: Build<'a>,
+    world: &World<'_>,
+    entry: MethodId,
+) -> Result<(), Trouble<'a>>
+    ensures ok { OnOk result (typing_fault world.now entry ≡ None) }
+    ensures stop { IfErr result (λ trouble. FaultStops trouble names.entry.config.now (map string_bytes names.entry.classes.now) (typing_fault world.now entry)) }
+{
+    match type_method(alloc, world, entry) {
+        Ok(_typed) => Ok(()),
+        Err(Stop::Refused(fault)) => {
+            let file = file_number(entry);
+            let name = file_name(names, file);
+            Err(Trouble::Refused(Refusal { file, ..fault }, name))
+        }
+        Err(Stop::NoMemory) => Err(Trouble::NoMemory),
+    }
+}
+
+/// Checks the code of the tasks' entries, in the order of the tasks.
+fn entries_in<'a>(
+    alloc: Global,
+    names: Build<'a>,
+    world: &World<'_>,
+    entries: &[MethodId],
+) -> Result<(), Trouble<'a>>
+    ensures ok { OnOk result (first_untyped world.now entries.now ≡ None) }
+    ensures stop { IfErr result (λ trouble. FaultStops trouble names.entry.config.now (map string_bytes names.entry.classes.now) (first_untyped world.now entries.now)) }
+{
+    for entry in entries {
+        entry_in(alloc, names, world, *entry)?;
+    }
+    Ok(())
+}
+
 /// The input of a build. A configuration or a class file that has a fault is refused under its name.
 pub fn read_input<'a, 'b>(
     alloc: Global,
@@ -138,12 +208,13 @@ pub fn read_input<'a, 'b>(
     files: &'b [Vec<u8>],
 ) -> Result<Input<'b>, Trouble<'a>>
     requires { length files.now ≤ most_classes }
-    ensures ok { IfOk result (λ input. IsTaken config.now (map (λ file. file.items) files.now) input.bound.config input.world) }
+    ensures ok { IfOk result (λ input. IsTaken config.now (map (λ file. file.items) files.now) input.bound input.world) }
     ensures stop { IfErr result (λ trouble. CompileStops trouble names.entry.config.now (map string_bytes names.entry.classes.now) config.now (map (λ file. file.items) files.now)) }
 {
     let config = config_in(alloc, names.config, config)?;
     let classes = classes_in(alloc, names, files)?;
     let world = world_in(alloc, names, classes)?;
-    let bound = bound_in(alloc, names.config, config, &world)?;
-    Ok(Input { world, bound })
+    let input = bound_input(alloc, names.config, config, world)?;
+    entries_in(alloc, names, &input.world, input.bound.entries.as_slice())?;
+    Ok(input)
 }
