@@ -7,9 +7,10 @@
 //! `codes.txt` has a code a line: what it shows; the method of Codes in whose place it stands, the code, and the
 //! table of its frames. A line is printed for each: what is refused and where, counted from the first byte of the
 //! code or of the table, or the frame before each instruction, as letters: the locals, a colon, and the operands.
-//! HotSpot's verifier, of OpenJDK 17, accepts and refuses the same codes, at the same instructions, but for two
-//! things: where a value doesn't fit what is declared behind an instruction, or nothing is there, it names the place
-//! behind; and it accepts a `new` whose own object is on the stack or in a local already.
+//! HotSpot's verifier, of OpenJDK 17, accepts and refuses the same codes, but for the `new` whose own object is on
+//! the stack, which it accepts. It names the same instruction, except where what an instruction leaves doesn't fit
+//! what is declared behind it, or nothing is there: then the place behind; a later one for the `new` whose own object
+//! is in a local; and the first one or none for a fault in a table of frames, as one of more operands than max_stack.
 //!
 //! Of the constant pool of Codes, 1 is the constructor of Object, 2 Object, 0x0b `static void filled(int, long, long,
 //! int)`, 0x0c Codes, 0x11 its constructor, 0x12 `static int taken(Codes)`, 0x21 the field `int number`, 0x24 `long
