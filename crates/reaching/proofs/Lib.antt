@@ -1,0 +1,4 @@
+pub mod Adding
+pub mod Exploring
+pub mod Putting
+pub mod Closing
