@@ -3,7 +3,7 @@ use crate::operand::linked;
 use classfile::{Class, read_class};
 use jcode::Op;
 use jworld::{ClassId, FieldId, MethodId, World};
-use kes_text::{Kind, NoMemory, Stop};
+use kes_text::{Kind, Stop};
 use std::alloc::Global;
 use std::test::Fail;
 
@@ -63,9 +63,10 @@ fn world_of<'a>(alloc: Global, main: &'a [u8], job: &'a [u8]) -> Result<World<'a
 }
 
 /// What an instruction of Main names.
-fn found(alloc: Global, world: &World<'_>, op: &Op) -> Result<Result<Named, Kind>, NoMemory> {
+fn found(alloc: Global, op: &Op) -> Result<Result<Named, Kind>, Stop> {
+    let world = world_of(alloc, &MAIN, &JOB)?;
     match world.get(ClassId { n: 4 }) {
-        Some(file) => linked(alloc, world, file, op),
+        Some(file) => Ok(linked(alloc, &world, file, op)?),
         None => Ok(Err(Kind::MissingClass)),
     }
 }
@@ -83,29 +84,16 @@ fn method(class: u32, n: u16) -> Result<Named, Kind> {
 #[test]
 fn fields_are_named(rt: HostRuntime) -> Result<(), Fail> {
     let alloc = rt.alloc();
-    let world = world_of(alloc, &MAIN, &JOB)?;
+    assert_eq!(rt; found(alloc, &Op::GetStatic { index: 13 })?, field(0));
+    assert_eq!(rt; found(alloc, &Op::PutStatic { index: 13 })?, field(0));
+    assert_eq!(rt; found(alloc, &Op::GetField { index: 17 })?, field(1));
+    assert_eq!(rt; found(alloc, &Op::PutField { index: 17 })?, field(1));
     assert_eq!(rt;
-        found(alloc, &world, &Op::GetStatic { index: 13 })?,
-        field(0)
-    );
-    assert_eq!(rt;
-        found(alloc, &world, &Op::PutStatic { index: 13 })?,
-        field(0)
-    );
-    assert_eq!(rt;
-        found(alloc, &world, &Op::GetField { index: 17 })?,
-        field(1)
-    );
-    assert_eq!(rt;
-        found(alloc, &world, &Op::PutField { index: 17 })?,
-        field(1)
-    );
-    assert_eq!(rt;
-        found(alloc, &world, &Op::GetStatic { index: 17 })?,
+        found(alloc, &Op::GetStatic { index: 17 })?,
         Err(Kind::NoMember)
     );
     assert_eq!(rt;
-        found(alloc, &world, &Op::GetField { index: 13 })?,
+        found(alloc, &Op::GetField { index: 13 })?,
         Err(Kind::NoMember)
     );
     Ok(())
@@ -114,29 +102,25 @@ fn fields_are_named(rt: HostRuntime) -> Result<(), Fail> {
 #[test]
 fn methods_are_named(rt: HostRuntime) -> Result<(), Fail> {
     let alloc = rt.alloc();
-    let world = world_of(alloc, &MAIN, &JOB)?;
+    assert_eq!(rt; found(alloc, &Op::InvokeStatic { index: 7 })?, method(4, 1));
     assert_eq!(rt;
-        found(alloc, &world, &Op::InvokeStatic { index: 7 })?,
-        method(4, 1)
-    );
-    assert_eq!(rt;
-        found(alloc, &world, &Op::InvokeSpecial { index: 1 })?,
+        found(alloc, &Op::InvokeSpecial { index: 1 })?,
         method(0, 0)
     );
     assert_eq!(rt;
-        found(alloc, &world, &Op::InvokeInterface { index: 21 })?,
+        found(alloc, &Op::InvokeInterface { index: 21 })?,
         method(5, 0)
     );
     assert_eq!(rt;
-        found(alloc, &world, &Op::InvokeVirtual { index: 7 })?,
+        found(alloc, &Op::InvokeVirtual { index: 7 })?,
         Err(Kind::NoMember)
     );
     assert_eq!(rt;
-        found(alloc, &world, &Op::InvokeVirtual { index: 26 })?,
+        found(alloc, &Op::InvokeVirtual { index: 26 })?,
         Err(Kind::FloatMember)
     );
     assert_eq!(rt;
-        found(alloc, &world, &Op::InvokeVirtual { index: 30 })?,
+        found(alloc, &Op::InvokeVirtual { index: 30 })?,
         Err(Kind::ArrayMethod)
     );
     Ok(())
@@ -145,37 +129,27 @@ fn methods_are_named(rt: HostRuntime) -> Result<(), Fail> {
 #[test]
 fn types_are_named(rt: HostRuntime) -> Result<(), Fail> {
     let alloc = rt.alloc();
-    let world = world_of(alloc, &MAIN, &JOB)?;
     let object = Ok(Named::Class(ClassId { n: 0 }));
-    assert_eq!(rt; found(alloc, &world, &Op::New { index: 2 })?, object);
+    assert_eq!(rt; found(alloc, &Op::New { index: 2 })?, object);
+    assert_eq!(rt; found(alloc, &Op::New { index: 8 })?, Err(Kind::BadNew));
+    assert_eq!(rt; found(alloc, &Op::New { index: 22 })?, Err(Kind::BadNew));
+    assert_eq!(rt; found(alloc, &Op::New { index: 31 })?, Err(Kind::BadNew));
     assert_eq!(rt;
-        found(alloc, &world, &Op::New { index: 8 })?,
-        Err(Kind::BadNew)
-    );
-    assert_eq!(rt;
-        found(alloc, &world, &Op::New { index: 22 })?,
-        Err(Kind::BadNew)
-    );
-    assert_eq!(rt;
-        found(alloc, &world, &Op::New { index: 31 })?,
-        Err(Kind::BadNew)
-    );
-    assert_eq!(rt;
-        found(alloc, &world, &Op::NewRefs { index: 31 })?,
+        found(alloc, &Op::NewRefs { index: 31 })?,
         Ok(Named::Nothing)
     );
     assert_eq!(rt;
-        found(alloc, &world, &Op::CheckCast { index: 22 })?,
+        found(alloc, &Op::CheckCast { index: 22 })?,
         Ok(Named::Nothing)
     );
     assert_eq!(rt;
-        found(alloc, &world, &Op::InstanceOf { index: 36 })?,
+        found(alloc, &Op::InstanceOf { index: 36 })?,
         Err(Kind::MissingClass)
     );
     assert_eq!(rt;
-        found(alloc, &world, &Op::InstanceOf { index: 38 })?,
+        found(alloc, &Op::InstanceOf { index: 38 })?,
         Err(Kind::MissingClass)
     );
-    assert_eq!(rt; found(alloc, &world, &Op::Nop)?, Ok(Named::Nothing));
+    assert_eq!(rt; found(alloc, &Op::Nop)?, Ok(Named::Nothing));
     Ok(())
 }
