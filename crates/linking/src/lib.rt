@@ -12,6 +12,7 @@ mod operand;
 #[cfg(test)]
 mod tests;
 
+pub use keys::method_key;
 pub use named::{Named, Wanted};
 pub use objects::has_objects;
 pub use operand::linked;

@@ -6,7 +6,7 @@ use Rattle.indexmap.specs.IndexSet.{insert_key}
 use Rattle.reaching.specs.declared.pair.Pair.{Pair}
 use Rattle.reaching.specs.Order.{is_same, add, pair_of}
 
-any_same : (eq : ℕ × ℕ × ℕ → Bool) (key : ℕ × ℕ × ℕ) (keys : List (ℕ × ℕ × ℕ)) → ((k : ℕ × ℕ × ℕ) → eq k ≡ is_same (pair_of key) (pair_of k)) → list_any eq keys ≡ list_any (is_same (pair_of key)) (map pair_of keys)
+pub any_same : (eq : ℕ × ℕ × ℕ → Bool) (key : ℕ × ℕ × ℕ) (keys : List (ℕ × ℕ × ℕ)) → ((k : ℕ × ℕ × ℕ) → eq k ≡ is_same (pair_of key) (pair_of k)) → list_any eq keys ≡ list_any (is_same (pair_of key)) (map pair_of keys)
 any_same eq key [] same = refl
 any_same eq key (k ∷ keys) same =
     ap (λ (b : Bool). b || list_any eq keys) (same k) ∙ ap (λ (b : Bool). is_same (pair_of key) (pair_of k) || b) (any_same eq key keys same)

@@ -1,7 +1,8 @@
 //! Pairs, each once.
 
 ghost use Rattle.std.specs.Prelude.{◌≡◌, [], slice_get, OnOk, OnErr};
-ghost use Rattle.reaching.specs.Order.{add, add_all};
+ghost use Rattle.std.specs.List.{list_any};
+ghost use Rattle.reaching.specs.Order.{is_same, add, add_all};
 
 use crate::pair::Pair;
 use indexmap::IndexSet;
@@ -44,6 +45,14 @@ impl Pairs {
         let class = ClassId { n: class };
         let method = MethodId { class, n };
         Some(Pair { domain, method })
+    }
+
+    /// Whether a pair is there.
+    pub fn has(&self, pair: Pair) -> bool
+        ensures { result ≡ list_any (is_same pair) self.now }
+    {
+        self.set
+            .contains(&(pair.domain, pair.method.class.n, pair.method.n))
     }
 
     /// Puts a pair behind the others, if it isn't there yet.

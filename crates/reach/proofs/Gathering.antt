@@ -1,0 +1,54 @@
+-- What the instructions mention, one after the other.
+use Rattle.std.proofs.Common.{◌≡◌, ℕ, zero, suc, ◌+◌, ◌<◌, ◌≤◌, List, [], ◌∷◌, length, drop, get_or, Result, Ok, Err, refl, sym, ap, ◌∙◌, arith}
+use Rattle.kes_text.specs.declared.refusal.Stop.{Stop}
+use Rattle.kes_text.specs.declared.refusal.Stop.TheVariants.{Refused, NoMemory}
+use Rattle.kes_text.specs.Answers.{◌>>=◌, OrNoMemory}
+use Rattle.classfile.specs.ClassFile.{ClassInfo}
+use Rattle.jcode.specs.declared.op.Ins.{Ins}
+use Rattle.reaching.specs.declared.graph.Mention.{Mention}
+use Rattle.mentions.specs.declared.called.Called.{Called}
+use Rattle.mentions.specs.Mentioned.{mentioned}
+use Rattle.mentions.specs.Setting.{Setting}
+use Rattle.reach.specs.Methods.{place_of, called_at, with_called, gathered}
+
+module _ (s : Setting) (domain own : ℕ) (file : ClassInfo) (base : ℕ) where
+  abbrev called_by : Ins → Result Called Stop
+  called_by ins = called_at (place_of base ins.pc) (mentioned s domain own file ins.op)
+
+  abbrev further : Mention → List Ins → Result Called Stop → Result Mention Stop
+  further mention code called = called >>= λ one. gathered s domain own file base (with_called mention one) code
+
+  one : (mention : Mention) (ins : Ins) (code : List Ins) → gathered s domain own file base mention (ins ∷ code) ≡ further mention code (called_by ins)
+  unfolding gathered
+  one mention ins code = refl
+
+  pub none_left : (mention : Mention) → gathered s domain own file base mention [] ≡ Ok mention
+  unfolding gathered
+  none_left mention = refl
+
+  pub goes_on : (mention : Mention) (ins : Ins) (code : List Ins) (called : Called) → called_by ins ≡ Ok called
+      → gathered s domain own file base mention (ins ∷ code) ≡ gathered s domain own file base (with_called mention called) code
+  goes_on mention ins code called e = one mention ins code ∙ ap (further mention code) e
+
+  pub stops : (mention : Mention) (ins : Ins) (code : List Ins) (stop : Stop) (whole : Result Mention Stop) → OrNoMemory (Err stop) (called_by ins)
+      → gathered s domain own file base mention (ins ∷ code) ≡ whole → OrNoMemory (Err stop) whole
+  stops mention ins code (Refused fault) whole h e = sym (one mention ins code ∙ ap (further mention code) (sym h)) ∙ e
+  stops mention ins code NoMemory whole h e = tt
+
+-- ---- the instructions that are left
+
+left_from : (code : List Ins) (n : ℕ) (ins : Ins) → n < length code → ins ≡ get_or code n ins → drop n code ≡ ins ∷ drop (suc n) code
+left_from [] n ins lt is = absurd (omega (lt, arith))
+left_from (first ∷ code) zero ins lt is = ap (λ (i : Ins). i ∷ code) (sym is)
+left_from (first ∷ code) (suc n) ins lt is = left_from code n ins (omega (lt, arith)) is
+
+pub left : (code : List Ins) (n : ℕ) (ins : Ins) → n < length code → ins ≡ get_or code n ins → drop n code ≡ ins ∷ drop (n + 1) code
+left code n ins lt is =
+    let next : suc n ≡ n + 1 = omega arith in
+    left_from code n ins lt is ∙ ap (λ (k : ℕ). ins ∷ drop k code) next
+
+pub none_behind : (code : List Ins) (n : ℕ) → length code ≤ n → drop n code ≡ []
+none_behind [] zero le = refl
+none_behind [] (suc n) le = refl
+none_behind (first ∷ code) zero le = absurd (omega (le, arith))
+none_behind (first ∷ code) (suc n) le = none_behind code n (omega (le, arith))
