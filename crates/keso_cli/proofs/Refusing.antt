@@ -1,5 +1,5 @@
 -- Why an input that wasn't compiled is refused.
-use Rattle.std.proofs.Common.{◌≡◌, ℕ, zero, suc, ◌+◌, ◌-◌, ◌<◌, ◌≤◌, List, [], ◌∷◌, ◌++◌, length, map, take, drop, get_or, Option, Some, None, Result, Ok, Err, refl, sym, ap, subst, ◌∙◌, arith}
+use Rattle.std.proofs.Common.{◌≡◌, ℕ, zero, suc, ◌+◌, ◌-◌, ◌<◌, ◌≤◌, List, [], ◌∷◌, length, map, take, drop, get_or, Option, Some, None, Result, Ok, Err, refl, sym, ap, subst, ◌∙◌, arith}
 use Rattle.std.specs.Prelude.{unwrap_or, is_none, option_map, slice_index_or, if◌then◌else◌}
 use Rattle.std.specs.Option.{option_or}
 use Rattle.std.specs.Result.{result_ok}
@@ -7,7 +7,6 @@ use Rattle.classfile.specs.ClassFile.{ClassInfo}
 use Rattle.classfile.specs.Pool.{◌>>=◌}
 use Rattle.classfile.specs.Reading.{class_file}
 use Rattle.jworld.specs.Faults.{world_fault}
-use Rattle.jworld.specs.declared.ids.MethodId.{MethodId}
 use Rattle.kbind.specs.declared.bound.Bound.{Bound}
 use Rattle.kbind.specs.Bound.{bound_of}
 use Rattle.kconfig.specs.declared.config.Config.{Config}
@@ -22,7 +21,7 @@ use Rattle.first_form.specs.Configuration.{configuration}
 use Rattle.first_form.specs.Class.{class_of}
 use Rattle.first_form.specs.Config.{config_of}
 use Rattle.first_form.specs.Fits.{if_they_fit, only_class, first_form}
-use Rattle.keso_cli.specs.Refusals.{IsAccepted, fault_of, first_fault, classes_in, of_class_file, world_refusal, binding_refusal, typing_fault, first_untyped, entries_in, entries_refusal, later, refusal_of, name_of}
+use Rattle.keso_cli.specs.Refusals.{IsAccepted, fault_of, first_fault, classes_in, of_class_file, world_refusal, binding_refusal, reach_refusal, bound_refusal, reached_refusal, later, refusal_of, name_of}
 use Rattle.keso_cli.specs.Stops.{FileStops, ClassesStop, FaultStops, CompileStops}
 use Rattle.keso_cli.specs.Taken.{IsBoundTo, IsTaken}
 use Rattle.keso_cli.proofs.Worlds.{config_is}
@@ -31,11 +30,6 @@ use Rattle.first_form.proofs.Headline.Inversion.{none_is_some}
 pub never_fits : (config : Option FirstConfig) → if_they_fit config None ≡ None
 never_fits None = refl
 never_fits (Some config) = refl
-
--- of two faults neither is there
-neither : (one other : Option Refusal) → option_or one other ≡ None → (one ≡ None) × (other ≡ None)
-neither None other e = (refl, e)
-neither (Some r) other e = absurd (none_is_some r (sym e))
 
 -- a fault has its file's number
 file_is : {A : Type 0} (number : ℕ) (read : Result A Stop) (r : Refusal) → fault_of number read ≡ Some r → number ≡ r.file
@@ -48,7 +42,7 @@ abbrev unless_form : Option (FirstConfig × FirstClass) → Option Refusal
 unless_form form = if is_none form then Some later else None
 
 abbrev when_bound : Result Config Stop → List ClassInfo → Option (FirstConfig × FirstClass) → Option Refusal
-when_bound read classes form = option_or (result_ok read >>= entries_refusal classes) (unless_form form)
+when_bound read classes form = option_or (result_ok read >>= reached_refusal classes) (unless_form form)
 
 abbrev in_world : Result Config Stop → List ClassInfo → Option (FirstConfig × FirstClass) → Option Refusal
 in_world read classes form = option_or (world_refusal classes) (option_or (result_ok read >>= binding_refusal classes) (when_bound read classes form))
@@ -209,10 +203,10 @@ are_bound text files config classes world bound ok e faultless same is =
 
 -- why an input is refused that is bound
 bound_refused : (text : List ℕ) (files : List (List ℕ)) (bound : Bound) (classes : List ClassInfo) → IsBoundTo text files bound classes
-    → refusal_of text files ≡ option_or (first_untyped classes bound.entries) (unless_form (form_of bound.config classes))
+    → refusal_of text files ≡ option_or (reach_refusal classes bound) (unless_form (form_of bound.config classes))
 bound_refused text files bound classes to =
     world_refused text files bound.config classes to.config_is to.classes_are to.are_world
-    ∙ ap (λ answer. option_or (fault_of 0 answer) (option_or (first_untyped classes (entries_in answer)) (unless_form (form_of bound.config classes)))) to.is_bound
+    ∙ ap (λ answer. option_or (fault_of 0 answer) (option_or (bound_refusal classes answer) (unless_form (form_of bound.config classes)))) to.is_bound
 
 -- the refusal of a fault that comes first
 fault_stops : (trouble : Trouble) (config : List ℕ) (names : List (List ℕ)) (text : List ℕ) (files : List (List ℕ)) (fault : Option Refusal)
@@ -224,46 +218,19 @@ fault_stops (CannotRead name) config names text files fault refused h = absurd h
 fault_stops (CannotWrite name) config names text files fault refused h = absurd h
 fault_stops CannotWriteOutput config names text files fault refused h = absurd h
 
--- a task's entry that isn't typed
-pub entries_stop : (trouble : Trouble) (config : List ℕ) (names : List (List ℕ)) (text : List ℕ) (files : List (List ℕ)) (bound : Bound) (classes : List ClassInfo)
-    → IsBoundTo text files bound classes → FaultStops trouble config names (first_untyped classes bound.entries) → CompileStops trouble config names text files
-entries_stop trouble config names text files bound classes to h =
-    fault_stops trouble config names text files (first_untyped classes bound.entries)
+-- a method that is reached and refused
+pub reach_stops : (trouble : Trouble) (config : List ℕ) (names : List (List ℕ)) (text : List ℕ) (files : List (List ℕ)) (bound : Bound) (classes : List ClassInfo)
+    → IsBoundTo text files bound classes → FaultStops trouble config names (reach_refusal classes bound) → CompileStops trouble config names text files
+reach_stops trouble config names text files bound classes to h =
+    fault_stops trouble config names text files (reach_refusal classes bound)
     (λ r fault. bound_refused text files bound classes to ∙ ap (λ o. option_or o (unless_form (form_of bound.config classes))) fault) h
-
--- the first of methods that isn't typed, behind those that are
-at_untyped : (world : List ClassInfo) (i : ℕ) (entries : List MethodId) (other : MethodId) (r : Refusal) → first_untyped world (take i entries) ≡ None
-    → i < length entries → typing_fault world (get_or entries i other) ≡ Some r → first_untyped world entries ≡ Some r
-at_untyped world i [] other r typed lt e = absurd (omega (lt, arith))
-at_untyped world zero (entry ∷ entries) other r typed lt e = ap (λ fault. option_or fault (first_untyped world entries)) e
-at_untyped world (suc i) (entry ∷ entries) other r typed lt e =
-    let both = neither (typing_fault world entry) (first_untyped world (take i entries)) typed in
-    ap (λ fault. option_or fault (first_untyped world entries)) both.0 ∙ at_untyped world i entries other r both.1 (omega (lt, arith)) e
-
-pub untyped_stops : (world : List ClassInfo) (i : ℕ) (entries : List MethodId) (other : MethodId) (trouble : Trouble) (config : List ℕ) (names : List (List ℕ)) → first_untyped world (take i entries) ≡ None
-    → i < length entries → FaultStops trouble config names (typing_fault world (get_or entries i other)) → FaultStops trouble config names (first_untyped world entries)
-untyped_stops world i entries other (Refused refusal name) config names typed lt h = (h.0, at_untyped world i entries other refusal typed lt h.1)
-untyped_stops world i entries other NoMemory config names typed lt h = tt
-untyped_stops world i entries other Usage config names typed lt h = absurd h
-untyped_stops world i entries other (CannotRead name) config names typed lt h = absurd h
-untyped_stops world i entries other (CannotWrite name) config names typed lt h = absurd h
-untyped_stops world i entries other CannotWriteOutput config names typed lt h = absurd h
-
--- methods that are typed, and one more
-pub one_more_typed : (world : List ClassInfo) (i : ℕ) (entries : List MethodId) (other : MethodId) → first_untyped world (take i entries) ≡ None
-    → i < length entries → typing_fault world (get_or entries i other) ≡ None → first_untyped world (take (suc i) entries) ≡ None
-one_more_typed world i [] other typed lt e = absurd (omega (lt, arith))
-one_more_typed world zero (entry ∷ entries) other typed lt e = ap (λ fault. option_or fault None) e
-one_more_typed world (suc i) (entry ∷ entries) other typed lt e =
-    let both = neither (typing_fault world entry) (first_untyped world (take i entries)) typed in
-    ap (λ fault. option_or fault (first_untyped world (take (suc i) entries))) both.0 ∙ one_more_typed world i entries other both.1 (omega (lt, arith)) e
 
 -- why an input that is taken is refused: it isn't of the first form
 taken_refused : (text : List ℕ) (files : List (List ℕ)) (bound : Bound) (classes : List ClassInfo) → IsTaken text files bound classes
     → refusal_of text files ≡ unless_form (form_of bound.config classes)
 taken_refused text files bound classes taken =
     bound_refused text files bound classes taken.bound_to
-    ∙ ap (λ fault. option_or fault (unless_form (form_of bound.config classes))) taken.are_typed
+    ∙ ap (λ fault. option_or fault (unless_form (form_of bound.config classes))) taken.are_reached
 
 pub comes_later : (text : List ℕ) (files : List (List ℕ)) (bound : Bound) (classes : List ClassInfo) → IsTaken text files bound classes
     → if_they_fit (config_of bound.config) (only_class classes) ≡ None → refusal_of text files ≡ Some later

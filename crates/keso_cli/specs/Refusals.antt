@@ -1,7 +1,7 @@
 -- Why an input isn't compiled: the first fault of the configuration's text, else the first of a class file, in the order of
 -- the words, else why these are no world, else the first line of the configuration whose rule fails in this world, else the
--- first fault of a task's entry, in the order of the tasks, and else that the input isn't of the first form.
-use Rattle.std.specs.Prelude.{◌≡◌, ℕ, ◌+◌, ◌-◌, List, [], ◌∷◌, filter_map, Option, Some, None, Result, Ok, Err, option_map, is_none, slice_index_or, if◌then◌else◌}
+-- first fault of a method that is reached, in their order, and else that the input isn't of the first form.
+use Rattle.std.specs.Prelude.{◌≡◌, ℕ, ◌+◌, ◌-◌, ◌^◌, min, List, [], ◌∷◌, filter_map, Option, Some, None, Result, Ok, Err, option_map, is_none, slice_index_or, if◌then◌else◌}
 use Rattle.std.specs.Option.{option_or}
 use Rattle.std.specs.Result.{result_ok}
 use Rattle.kes_text.specs.declared.refusal.Refusal.{Refusal}
@@ -11,11 +11,10 @@ use Rattle.kes_text.specs.declared.refusal.Stop.TheVariants.{Refused, NoMemory}
 use Rattle.classfile.specs.ClassFile.{ClassInfo}
 use Rattle.classfile.specs.Pool.{◌>>=◌}
 use Rattle.classfile.specs.Reading.{class_file}
-use Rattle.jworld.specs.declared.ids.MethodId.{MethodId}
 use Rattle.jworld.specs.Faults.{world_fault}
 use Rattle.kbind.specs.declared.bound.Bound.{Bound}
 use Rattle.kbind.specs.Bound.{bound_of}
-use Rattle.method_typing.specs.Method.{method_typed}
+use Rattle.reach.specs.Reach.{reach_of}
 use Rattle.kconfig.specs.declared.config.Config.{Config}
 use Rattle.first_form.specs.Configuration.{configuration}
 use Rattle.first_form.specs.declared.config.FirstConfig.{FirstConfig}
@@ -49,27 +48,23 @@ world_refusal classes = option_map of_class_file (world_fault classes)
 abbrev pub binding_refusal : List ClassInfo → Config → Option Refusal
 binding_refusal world config = fault_of 0 (bound_of world config)
 
--- the number of the file of a method's class: four classes have no file, and come first
-abbrev pub file_number : MethodId → ℕ
-file_number method = method.class.n - 3
+-- the first fault of a method that is reached. The class files are numbered from 0 there; a number of 32 bits stands still at
+-- its end
+abbrev pub reached_fault : {A : Type 0} → Result A Stop → Option Refusal
+reached_fault (Ok reached) = None
+reached_fault (Err NoMemory) = None
+reached_fault (Err (Refused fault)) = Some (record { file = min (fault.file + 1) (2 ^ 32 - 1); kind = fault.kind; at = fault.at })
 
--- why a method isn't typed
-abbrev pub typing_fault : List ClassInfo → MethodId → Option Refusal
-typing_fault world method = fault_of (file_number method) (method_typed world method)
+abbrev pub reach_refusal : List ClassInfo → Bound → Option Refusal
+reach_refusal world bound = reached_fault (reach_of (record { files = world; bound = bound }))
 
--- the first fault of methods, of which each is decoded, its frames are read, and it is typed
-abbrev pub first_untyped : List ClassInfo → List MethodId → Option Refusal
-first_untyped world [] = None
-first_untyped world (method ∷ more) = option_or (typing_fault world method) (first_untyped world more)
+-- of a configuration that is bound
+abbrev pub bound_refusal : List ClassInfo → Result Bound Stop → Option Refusal
+bound_refusal world (Ok bound) = reach_refusal world bound
+bound_refusal world (Err stop) = None
 
--- the entries of the tasks, in their order
-abbrev pub entries_in : Result Bound Stop → List MethodId
-entries_in (Ok bound) = bound.entries
-entries_in (Err stop) = []
-
--- the first fault of a task's entry in a world
-abbrev pub entries_refusal : List ClassInfo → Config → Option Refusal
-entries_refusal world config = first_untyped world (entries_in (bound_of world config))
+abbrev pub reached_refusal : List ClassInfo → Config → Option Refusal
+reached_refusal world config = bound_refusal world (bound_of world config)
 
 -- the input isn't compiled yet
 abbrev pub later : Refusal
@@ -81,7 +76,7 @@ refusal_of text files =
     (option_or (first_fault 1 files)
     (option_or (world_refusal (classes_in files))
     (option_or (result_ok (configuration text) >>= binding_refusal (classes_in files))
-    (option_or (result_ok (configuration text) >>= entries_refusal (classes_in files))
+    (option_or (result_ok (configuration text) >>= reached_refusal (classes_in files))
     (if is_none (first_form text files) then Some later else None)))))
 
 -- an input that isn't refused, and what it says

@@ -1,4 +1,5 @@
--- An input that is taken: a configuration that is bound to a world of classes, in which each task's entry is typed.
+-- An input that is taken: a configuration that is bound to a world of classes, in which no method is reached that is
+-- refused.
 use Rattle.std.specs.Prelude.{◌≡◌, ℕ, List, map, None, Ok}
 use Rattle.classfile.specs.ClassFile.{ClassInfo}
 use Rattle.classfile.specs.Reading.{class_file}
@@ -6,7 +7,7 @@ use Rattle.jworld.specs.Faults.{world_fault}
 use Rattle.kbind.specs.declared.bound.Bound.{Bound}
 use Rattle.kbind.specs.Bound.{bound_of}
 use Rattle.first_form.specs.Configuration.{configuration}
-use Rattle.keso_cli.specs.Refusals.{first_untyped}
+use Rattle.keso_cli.specs.Refusals.{reach_refusal}
 
 -- a configuration and classes without a fault, which are a world to which it is bound
 pub record IsBoundTo (text : List ℕ) (files : List (List ℕ)) (bound : Bound) (classes : List ClassInfo) : Type 0 where
@@ -17,5 +18,5 @@ pub record IsBoundTo (text : List ℕ) (files : List (List ℕ)) (bound : Bound)
 
 pub record IsTaken (text : List ℕ) (files : List (List ℕ)) (bound : Bound) (classes : List ClassInfo) : Type 0 where
   pub bound_to : IsBoundTo text files bound classes
-  -- each task's entry is typed
-  pub are_typed : first_untyped classes bound.entries ≡ None
+  -- no method that is reached is refused
+  pub are_reached : reach_refusal classes bound ≡ None

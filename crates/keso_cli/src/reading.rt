@@ -5,7 +5,7 @@ ghost use Rattle.classfile.specs.Reading.{class_file};
 ghost use Rattle.jworld.specs.Faults.{world_fault};
 ghost use Rattle.kbind.specs.Bound.{bound_of};
 ghost use Rattle.first_form.specs.Configuration.{configuration};
-ghost use Rattle.keso_cli.specs.Refusals.{first_fault, world_refusal, name_of, file_number, typing_fault, first_untyped};
+ghost use Rattle.keso_cli.specs.Refusals.{first_fault, world_refusal, name_of, reach_refusal};
 ghost use Rattle.keso_cli.specs.Request.{most_classes};
 ghost use Rattle.keso_cli.specs.Stops.{FileStops, ClassesStop, FaultStops, CompileStops};
 ghost use Rattle.keso_cli.specs.Taken.{IsTaken};
@@ -14,11 +14,11 @@ use crate::inputs::Classes;
 use crate::trouble::Trouble;
 use crate::words::Build;
 use classfile::{Class, read_class};
-use jworld::{MethodId, World};
+use jworld::World;
 use kbind::{Bound, bind};
 use kconfig::{Config, read_config};
 use kes_text::{Refusal, Stop};
-use method_typing::type_method;
+use reach::reach;
 use std::alloc::Global;
 
 /// A configuration that is bound to a world of classes.
@@ -156,48 +156,25 @@ fn file_name<'a>(names: Build<'a>, number: u32) -> &'a str
     }
 }
 
-/// The number of the file of a method's class.
-fn file_number(method: MethodId) -> u32
-    ensures { result ≡ file_number method }
-{
-    method.class.n.saturating_sub(3)
-}
-
-/// Checks the code of a task's entry.
-fn entry_in<'a>(
+/// Looks at the methods that are reached from the tasks' entries.
+fn reached_in<'a>(
     alloc: Global,
     names: Build<'a>,
     world: &World<'_>,
-    entry: MethodId,
+    bound: &Bound,
 ) -> Result<(), Trouble<'a>>
-    ensures ok { OnOk result (typing_fault world.now entry ≡ None) }
-    ensures stop { IfErr result (λ trouble. FaultStops trouble names.entry.config.now (map string_bytes names.entry.classes.now) (typing_fault world.now entry)) }
+    ensures ok { OnOk result (reach_refusal world.now bound.now ≡ None) }
+    ensures stop { IfErr result (λ trouble. FaultStops trouble names.entry.config.now (map string_bytes names.entry.classes.now) (reach_refusal world.now bound.now)) }
 {
-    match type_method(alloc, world, entry) {
-        Ok(_typed) => Ok(()),
+    match reach(alloc, bound, world) {
+        Ok(_pairs) => Ok(()),
         Err(Stop::Refused(fault)) => {
-            let file = file_number(entry);
+            let file = fault.file.saturating_add(1);
             let name = file_name(names, file);
             Err(Trouble::Refused(Refusal { file, ..fault }, name))
         }
         Err(Stop::NoMemory) => Err(Trouble::NoMemory),
     }
-}
-
-/// Checks the code of the tasks' entries, in the order of the tasks.
-fn entries_in<'a>(
-    alloc: Global,
-    names: Build<'a>,
-    world: &World<'_>,
-    entries: &[MethodId],
-) -> Result<(), Trouble<'a>>
-    ensures ok { OnOk result (first_untyped world.now entries.now ≡ None) }
-    ensures stop { IfErr result (λ trouble. FaultStops trouble names.entry.config.now (map string_bytes names.entry.classes.now) (first_untyped world.now entries.now)) }
-{
-    for entry in entries {
-        entry_in(alloc, names, world, *entry)?;
-    }
-    Ok(())
 }
 
 /// The input of a build. A configuration or a class file that has a fault is refused under its name.
@@ -215,6 +192,6 @@ pub fn read_input<'a, 'b>(
     let classes = classes_in(alloc, names, files)?;
     let world = world_in(alloc, names, classes)?;
     let input = bound_input(alloc, names.config, config, world)?;
-    entries_in(alloc, names, &input.world, input.bound.entries.as_slice())?;
+    reached_in(alloc, names, &input.world, &input.bound)?;
     Ok(input)
 }

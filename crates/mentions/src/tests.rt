@@ -39,18 +39,32 @@ fn bound_to(alloc: Global, world: &World<'_>) -> Result<Bound, Stop> {
 }
 
 /// How many initialisers and targets an instruction mentions, or the rule that fails.
-fn counted(alloc: Global, op: &Op) -> Result<Result<(usize, usize), Kind>, Stop> {
-    let world = world_of(alloc, &CLASS)?;
-    let bound = bound_to(alloc, &world)?;
-    let setting = Setting::new(alloc, &world, &bound)?;
+type Counted = Result<(usize, usize), Kind>;
+
+fn count(alloc: Global, s: &Setting<'_, '_>, op: &Op) -> Result<Counted, Stop> {
     let own = ClassId { n: 4 };
-    let Some(file) = world.get(own) else {
+    let Some(file) = s.world.get(own) else {
         return Ok(Err(Kind::MissingClass));
     };
-    match mentioned(alloc, &setting, 0, own, file, op)? {
+    match mentioned(alloc, s, 0, own, file, op)? {
         Ok(called) => Ok(Ok((called.initialisers.len(), called.targets.len()))),
         Err(rule) => Ok(Err(rule)),
     }
+}
+
+fn count_in(alloc: Global, world: &World<'_>, bound: &Bound, op: &Op) -> Result<Counted, Stop> {
+    let setting = Setting::new(alloc, world, bound)?;
+    count(alloc, &setting, op)
+}
+
+fn count_bound(alloc: Global, world: &World<'_>, op: &Op) -> Result<Counted, Stop> {
+    let bound = bound_to(alloc, world)?;
+    count_in(alloc, world, &bound, op)
+}
+
+fn counted(alloc: Global, op: &Op) -> Result<Counted, Stop> {
+    let world = world_of(alloc, &CLASS)?;
+    count_bound(alloc, &world, op)
 }
 
 #[test]
