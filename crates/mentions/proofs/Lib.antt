@@ -1,6 +1,6 @@
 pub mod Keeping
 pub mod Zipping
-pub mod Portals
+pub mod Adding
 pub mod Climbing
 pub mod ByClass
 pub mod Gathering

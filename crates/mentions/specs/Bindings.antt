@@ -1,6 +1,8 @@
 -- What a native method is bound to by a line of the configuration.
 use Rattle.std.specs.Prelude.{ℕ, Bool, List, [], ◌∷◌, ◌++◌, map, zip, fold, Option, Some, None, is_some, ◌==◌, ◌&&◌, if◌then◌else◌}
 use Rattle.jworld.specs.declared.ids.MethodId.{MethodId}
+use Rattle.kconfig.specs.declared.config.NativeLine.{NativeLine}
+use Rattle.kconfig.specs.declared.config.DeviceLine.{DeviceLine}
 use Rattle.kconfig.specs.declared.config.PortalLine.{PortalLine}
 use Rattle.kbind.specs.declared.bound.Bound.{Bound}
 use Rattle.mentions.specs.declared.binding.Binding.{Binding}
@@ -13,18 +15,21 @@ is_method one other = one.class.n == other.class.n && one.n == other.n
 abbrev pub Entry : Type 0
 Entry = MethodId × Binding
 
-abbrev pub each : Binding → List MethodId → List Entry
-each binding methods = map (λ id. (id, binding)) methods
+-- a line beside the method that it names is an entry
+abbrev pub native : NativeLine × MethodId → Entry
+native line = (line.1, Service line.0.service)
+
+abbrev pub device : DeviceLine × MethodId → Entry
+device line = (line.1, Device line.0.object)
 
 -- a portal's method is bound to a target in the domain of its line
 abbrev pub portal : PortalLine × (MethodId × MethodId) → Entry
-portal bound = (bound.1.0, Portal bound.0.domain bound.1.1)
-
-abbrev pub portals_of : List PortalLine → List (MethodId × MethodId) → List Entry
-portals_of lines methods = map portal (zip lines methods)
+portal line = (line.1.0, Portal line.0.domain line.1.1)
 
 abbrev pub entries_of : Bound → List Entry
-entries_of bound = each Service bound.natives ++ each Device bound.device_methods ++ portals_of bound.config.portals bound.portals
+entries_of bound =
+    map native (zip bound.config.natives bound.natives) ++ map device (zip bound.config.device_methods bound.device_methods)
+    ++ map portal (zip bound.config.portals bound.portals)
 
 -- what the first entry of a method binds it to
 abbrev pub bound_as : MethodId → List Entry → Option Binding

@@ -14,7 +14,7 @@ use Rattle.jworld.specs.Methods.{selected_method}
 use Rattle.linking.specs.Methods.{method_key}
 use Rattle.reaching.specs.declared.pair.Pair.{Pair}
 use Rattle.mentions.specs.declared.binding.Binding.{Binding}
-use Rattle.mentions.specs.declared.binding.Binding.TheVariants.{Service, Device, Portal}
+use Rattle.mentions.specs.declared.binding.Binding.TheVariants.{Portal}
 use Rattle.mentions.specs.declared.called.Called.{Called}
 use Rattle.mentions.specs.Bindings.{binding_of}
 use Rattle.mentions.specs.Initialisers.{in_domain, initialisers}

@@ -1,13 +1,13 @@
 //! What native methods are bound to.
 
 ghost use Rattle.std.specs.Prelude.{◌≡◌, [], IfOk, OnOk};
-ghost use Rattle.mentions.specs.Bindings.{bound_as, add, add_all, each, portals_of, entries_of, binding_of};
-ghost use Rattle.mentions.specs.declared.binding.Binding.TheVariants.{Service as AService, Device as ADevice};
+ghost use Rattle.std.specs.Prelude.{map, zip};
+ghost use Rattle.mentions.specs.Bindings.{Entry as AnEntry, native, device, portal, bound_as, add, add_all, binding_of};
 
 use indexmap::IndexMap;
 use jworld::MethodId;
 use kbind::Bound;
-use kconfig::PortalLine;
+use kconfig::{DeviceLine, NativeLine, PortalLine, Service};
 use kes_text::NoMemory;
 use std::alloc::Global;
 use std::marker::Model;
@@ -15,10 +15,47 @@ use std::marker::Model;
 /// What a line of the configuration binds a native method to.
 #[derive(Clone, Copy, Debug, PartialEq, Eq)]
 pub enum Binding {
-    Service,
-    Device,
+    Service(Service),
+    /// The object of this number, in the order of the lines, which it answers.
+    Device { object: u32 },
     /// The method that it calls, in the domain of this number.
     Portal { domain: u32, target: MethodId },
+}
+
+/// A line of the configuration, beside what it names in a world, binds a method.
+trait Binds<Named> {
+    /// The method, and what it is bound to.
+    ghost member: { Self → Named → AnEntry };
+
+    fn member(&self, named: &Named) -> (MethodId, Binding)
+        ensures { result ≡ member self.now named.now };
+}
+
+impl Binds<MethodId> for NativeLine {
+    ghost member = { λ line named. native (line, named) };
+
+    fn member(&self, named: &MethodId) -> (MethodId, Binding) {
+        (*named, Binding::Service(self.service))
+    }
+}
+
+impl Binds<MethodId> for DeviceLine {
+    ghost member = { λ line named. device (line, named) };
+
+    fn member(&self, named: &MethodId) -> (MethodId, Binding) {
+        let object = self.object;
+        (*named, Binding::Device { object })
+    }
+}
+
+impl Binds<(MethodId, MethodId)> for PortalLine {
+    ghost member = { λ line named. portal (line, named) };
+
+    fn member(&self, named: &(MethodId, MethodId)) -> (MethodId, Binding) {
+        let (method, target) = *named;
+        let domain = self.domain;
+        (method, Binding::Portal { domain, target })
+    }
 }
 
 /// The native methods that are bound, which are found in a time that hardly grows with their number.
@@ -62,31 +99,20 @@ impl Bindings {
         Ok(())
     }
 
-    /// Binds each of these methods.
-    fn add_each(&mut self, methods: &[MethodId], binding: Binding) -> Result<(), NoMemory>
-        ensures { OnOk result (self.new ≡ add_all self.old (each binding methods.now)) }
-    {
-        for method in methods {
-            self.add(*method, binding)?;
-        }
-        Ok(())
-    }
-
-    /// Binds the portals' methods.
-    fn add_portals(
+    /// Binds the methods of lines, each line beside what it names.
+    fn add_lines<Named, Line: Binds<Named>>(
         &mut self,
-        lines: &[PortalLine],
-        methods: &[(MethodId, MethodId)],
+        lines: &[Line],
+        named: &[Named],
     ) -> Result<(), NoMemory>
-        ensures { OnOk result (self.new ≡ add_all self.old (portals_of lines.now methods.now)) }
+        ensures { OnOk result (self.new ≡ add_all self.old (map (λ both. Line.member both.0 both.1) (zip lines.now named.now))) }
     {
-        for n in 0..methods.len() {
+        for n in 0..named.len() {
             let Some(line) = lines.get(n) else {
                 return Ok(());
             };
-            let (method, target) = methods[n];
-            let domain = line.domain;
-            self.add(method, Binding::Portal { domain, target })?;
+            let (method, binding) = line.member(&named[n]);
+            self.add(method, binding)?;
         }
         Ok(())
     }
@@ -96,9 +122,13 @@ impl Bindings {
         ensures { IfOk result (λ bindings. (id : MethodId) → bound_as id bindings ≡ binding_of bound.now id) }
     {
         let mut bindings = Bindings::new(alloc);
-        bindings.add_each(bound.natives.as_slice(), Binding::Service)?;
-        bindings.add_each(bound.device_methods.as_slice(), Binding::Device)?;
-        bindings.add_portals(bound.config.portals.as_slice(), bound.portals.as_slice())?;
+        let config = &bound.config;
+        bindings.add_lines(config.natives.as_slice(), bound.natives.as_slice())?;
+        bindings.add_lines(
+            config.device_methods.as_slice(),
+            bound.device_methods.as_slice(),
+        )?;
+        bindings.add_lines(config.portals.as_slice(), bound.portals.as_slice())?;
         Ok(bindings)
     }
 }

@@ -162,8 +162,9 @@ fn is_of_super(world: &World<'_>, own: ClassId, named: &Member<'_>, class: Class
     named.name != b"<init>".as_slice() && class.n != own.n && world.is_subclass(own, class)
 }
 
-/// The method that a special call runs.
-fn special_target(
+/// The method that a special call runs, which stands in a class of this number and names a method that resolves to this one
+/// (JVMS SE 8, 6.5 invokespecial). None where a superclass's method is called and none is selected.
+pub fn special_target(
     alloc: Global,
     world: &World<'_>,
     own: ClassId,
