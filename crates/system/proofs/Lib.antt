@@ -1,0 +1,2 @@
+pub mod LostAlarms
+pub mod WellMade
