@@ -1,0 +1,5 @@
+pub mod Adding
+pub mod Climbing
+pub mod Descriptors
+pub mod Placed
+pub mod Told
