@@ -1,7 +1,8 @@
--- A pair that is put into a set of keys.
-use Rattle.std.proofs.Common.{◌≡◌, ℕ, Bool, true, false, ◌||◌, cond, List, [], ◌∷◌, ◌++◌, map, refl, sym, ap, ◌∙◌}
+-- A pair that is put into a set of keys, or found among them.
+use Rattle.std.proofs.Common.{◌≡◌, ℕ, ◌+◌, Bool, true, false, ◌||◌, cond, List, [], ◌∷◌, ◌++◌, map, position, Option, Some, refl, sym, ap, ◌∙◌}
 use Rattle.std.specs.Prelude.{if◌then◌else◌}
-use Rattle.std.specs.List.{list_any}
+use Rattle.std.specs.List.{list_any, position_from}
+use Rattle.std.proofs.lemmas.Iterator.Adapters.{position_from-zero}
 use Rattle.indexmap.specs.IndexSet.{insert_key}
 use Rattle.reaching.specs.declared.pair.Pair.{Pair}
 use Rattle.reaching.specs.Order.{is_same, add, pair_of}
@@ -24,3 +25,14 @@ pub added : (eq : ℕ × ℕ × ℕ → ℕ × ℕ × ℕ → Bool) (keys : List
 added eq keys key same =
     by_test keys key (list_any (eq key) keys)
     ∙ ap (λ (b : Bool). if b then map pair_of keys else map pair_of keys ++ pair_of key ∷ []) (any_same (eq key) key keys same)
+
+same_place : (eq : ℕ × ℕ × ℕ → Bool) (key : ℕ × ℕ × ℕ) (place : ℕ) (keys : List (ℕ × ℕ × ℕ)) → ((k : ℕ × ℕ × ℕ) → eq k ≡ is_same (pair_of key) (pair_of k))
+    → position_from eq place keys ≡ position_from (is_same (pair_of key)) place (map pair_of keys)
+same_place eq key place [] same = refl
+same_place eq key place (k ∷ keys) same =
+    ap (λ (b : Bool). cond b (Some place) (position_from eq (place + 1) keys)) (same k)
+    ∙ ap (λ (behind : Option ℕ). cond (is_same (pair_of key) (pair_of k)) (Some place) behind) (same_place eq key (place + 1) keys same)
+
+pub placed : (eq : ℕ × ℕ × ℕ → Bool) (key : ℕ × ℕ × ℕ) (keys : List (ℕ × ℕ × ℕ)) → ((k : ℕ × ℕ × ℕ) → eq k ≡ is_same (pair_of key) (pair_of k))
+    → position eq keys ≡ position (is_same (pair_of key)) (map pair_of keys)
+placed eq key keys same = position_from-zero eq keys ∙ same_place eq key 0 keys same ∙ sym (position_from-zero (is_same (pair_of key)) (map pair_of keys))

@@ -12,7 +12,8 @@ use Rattle.reaching.specs.Order.{add_all}
 use Rattle.reaching.specs.Reached.{Known, most, with_mention, look_at, explored, ended, reached}
 use Rattle.reaching.specs.Closed.{IsReached, Root, Mentioned, AreReached, LeastClosed}
 use Rattle.reaching.proofs.Exploring.{looks}
-use Rattle.reaching.proofs.Putting.{Distinct, stays, are_there, were, behind, distinct_all, at_place, all_pairs}
+use Rattle.reaching.proofs.Inserting.{Distinct, at_place, all_pairs}
+use Rattle.reaching.proofs.Putting.{stays, are_there, were, behind, distinct_all}
 
 abbrev answer : (A : Type 0) → Type 0
 answer A = Result A Stop

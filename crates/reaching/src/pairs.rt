@@ -1,6 +1,6 @@
 //! Pairs, each once.
 
-ghost use Rattle.std.specs.Prelude.{◌≡◌, [], slice_get, OnOk, OnErr};
+ghost use Rattle.std.specs.Prelude.{◌≡◌, [], length, position, slice_get, OnOk, OnErr};
 ghost use Rattle.std.specs.List.{list_any};
 ghost use Rattle.reaching.specs.Order.{is_same, add, add_all};
 
@@ -53,6 +53,21 @@ impl Pairs {
     {
         self.set
             .contains(&(pair.domain, pair.method.class.n, pair.method.n))
+    }
+
+    /// The place of a pair.
+    pub fn number(&self, pair: Pair) -> Option<usize>
+        ensures { result ≡ position (is_same pair) self.now }
+    {
+        self.set
+            .get_index_of(&(pair.domain, pair.method.class.n, pair.method.n))
+    }
+
+    /// How many pairs there are.
+    pub fn len(&self) -> usize
+        ensures { result ≡ length self.now }
+    {
+        self.set.len()
     }
 
     /// Puts a pair behind the others, if it isn't there yet.
