@@ -1,0 +1,4 @@
+pub mod Meaning
+pub mod Filtering
+pub mod Searching
+pub mod Falling
