@@ -14,8 +14,8 @@ use reaching::Pair;
 use sqlite_items::Items;
 use std::alloc::Global;
 
-/// Whether a method is the initialiser of its class.
-fn is_initialiser(method: &Method<'_>) -> bool
+/// Whether a method is the initialiser of its class: a static `<clinit>()V` with code.
+pub fn is_initialiser(method: &Method<'_>) -> bool
     ensures { result ≡ is_initialiser method.now }
 {
     method.name == b"<clinit>".as_slice()

@@ -16,6 +16,7 @@ mod tests;
 pub use binding::{Binding, Bindings};
 pub use called::Called;
 pub use calls::special_target;
+pub use initialising::is_initialiser;
 pub use instruction::mentioned;
 pub use setting::Setting;
 pub use targets::{Targets, has_code, targets_of};
