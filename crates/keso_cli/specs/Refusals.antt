@@ -1,6 +1,6 @@
 -- Why an input isn't compiled: the first fault of the configuration's text, else the first of a class file, in the order of
 -- the words, else why these are no world, else the first line of the configuration whose rule fails in this world, else the
--- first fault of a method that is reached, in their order, and else that the input isn't of the first form.
+-- first fault of what is reached, and else that the input isn't of the first form.
 use Rattle.std.specs.Prelude.{◌≡◌, ℕ, ◌+◌, ◌-◌, ◌^◌, min, List, [], ◌∷◌, filter_map, Option, Some, None, Result, Ok, Err, option_map, is_none, slice_index_or, if◌then◌else◌}
 use Rattle.std.specs.Option.{option_or}
 use Rattle.std.specs.Result.{result_ok}
@@ -48,8 +48,9 @@ world_refusal classes = option_map of_class_file (world_fault classes)
 abbrev pub binding_refusal : List ClassInfo → Config → Option Refusal
 binding_refusal world config = fault_of 0 (bound_of world config)
 
--- the first fault of a method that is reached. The class files are numbered from 0 there; a number of 32 bits stands still at
--- its end
+-- the first fault of what is reached: that of a method, in their order, else the first call of a service or a portal that
+-- initialisers reach, and else the first call on a cycle. The class files are numbered from 0 there; a number of 32 bits
+-- stands still at its end
 abbrev pub reached_fault : {A : Type 0} → Result A Stop → Option Refusal
 reached_fault (Ok reached) = None
 reached_fault (Err NoMemory) = None

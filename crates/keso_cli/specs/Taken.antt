@@ -1,5 +1,4 @@
--- An input that is taken: a configuration that is bound to a world of classes, in which no method is reached that is
--- refused.
+-- An input that is taken: a configuration that is bound to a world of classes, in which nothing that is reached is refused.
 use Rattle.std.specs.Prelude.{◌≡◌, ℕ, List, map, None, Ok}
 use Rattle.classfile.specs.ClassFile.{ClassInfo}
 use Rattle.classfile.specs.Reading.{class_file}
@@ -18,5 +17,5 @@ pub record IsBoundTo (text : List ℕ) (files : List (List ℕ)) (bound : Bound)
 
 pub record IsTaken (text : List ℕ) (files : List (List ℕ)) (bound : Bound) (classes : List ClassInfo) : Type 0 where
   pub bound_to : IsBoundTo text files bound classes
-  -- no method that is reached is refused
+  -- neither a method that is reached nor a call
   pub are_reached : reach_refusal classes bound ≡ None

@@ -156,7 +156,7 @@ fn file_name<'a>(names: Build<'a>, number: u32) -> &'a str
     }
 }
 
-/// Looks at the methods that are reached from the tasks' entries.
+/// Looks at what is reached from the tasks' entries.
 fn reached_in<'a>(
     alloc: Global,
     names: Build<'a>,
@@ -167,7 +167,7 @@ fn reached_in<'a>(
     ensures stop { IfErr result (λ trouble. FaultStops trouble names.entry.config.now (map string_bytes names.entry.classes.now) (reach_refusal world.now bound.now)) }
 {
     match reach(alloc, bound, world) {
-        Ok(_pairs) => Ok(()),
+        Ok(_reached) => Ok(()),
         Err(Stop::Refused(fault)) => {
             let file = fault.file.saturating_add(1);
             let name = file_name(names, file);

@@ -396,6 +396,22 @@ fn the_code_of_an_entry_is_checked(rt: HostRuntime) -> Result<(), Fail> {
     Ok(())
 }
 
+#[test]
+fn a_call_that_leads_back_is_refused(rt: HostRuntime) -> Result<(), Fail> {
+    // The method calls itself, and drops nothing.
+    let mut bytes = with_byte(130, 0x00);
+    bytes[82] = 0x07;
+    bytes[84] = 0x08;
+    let ran = build_of(rt.alloc(), CONFIG, &bytes, NONE_FAILS)?;
+    assert_eq!(rt; ran.status, Status::Refused);
+    assert_eq!(rt;
+        ran.err.bytes(),
+        b"keso: Main.class: Recursive at 127\n".as_slice()
+    );
+    assert_eq!(rt; ran.files.get("row.c"), None);
+    Ok(())
+}
+
 /// The class that jumps with another byte at a place.
 fn jump_with_byte(at: usize, byte: u8) -> [u8; 162] {
     let mut bytes = JUMP;

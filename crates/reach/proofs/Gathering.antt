@@ -34,21 +34,3 @@ module _ (s : Setting) (domain own : ℕ) (file : ClassInfo) (base : ℕ) where
       → gathered s domain own file base mention (ins ∷ code) ≡ whole → OrNoMemory (Err stop) whole
   stops mention ins code (Refused fault) whole h e = sym (one mention ins code ∙ ap (further mention code) (sym h)) ∙ e
   stops mention ins code NoMemory whole h e = tt
-
--- ---- the instructions that are left
-
-left_from : (code : List Ins) (n : ℕ) (ins : Ins) → n < length code → ins ≡ get_or code n ins → drop n code ≡ ins ∷ drop (suc n) code
-left_from [] n ins lt is = absurd (omega (lt, arith))
-left_from (first ∷ code) zero ins lt is = ap (λ (i : Ins). i ∷ code) (sym is)
-left_from (first ∷ code) (suc n) ins lt is = left_from code n ins (omega (lt, arith)) is
-
-pub left : (code : List Ins) (n : ℕ) (ins : Ins) → n < length code → ins ≡ get_or code n ins → drop n code ≡ ins ∷ drop (n + 1) code
-left code n ins lt is =
-    let next : suc n ≡ n + 1 = omega arith in
-    left_from code n ins lt is ∙ ap (λ (k : ℕ). ins ∷ drop k code) next
-
-pub none_behind : (code : List Ins) (n : ℕ) → length code ≤ n → drop n code ≡ []
-none_behind [] zero le = refl
-none_behind [] (suc n) le = refl
-none_behind (first ∷ code) zero le = absurd (omega (le, arith))
-none_behind (first ∷ code) (suc n) le = none_behind code n (omega (le, arith))

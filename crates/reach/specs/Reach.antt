@@ -1,27 +1,33 @@
--- The pairs of a domain and a method that are reached in an application: from the entries of its tasks on.
-use Rattle.std.specs.Prelude.{List, [], map, zip, Result}
+-- What is reached in an application, or why it is refused.
+use Rattle.std.specs.Prelude.{List, Option, Some, None, Result, Ok, Err}
+use Rattle.kes_text.specs.declared.refusal.Refusal.{Refusal}
 use Rattle.kes_text.specs.declared.refusal.Stop.{Stop}
-use Rattle.jworld.specs.declared.ids.MethodId.{MethodId}
-use Rattle.kconfig.specs.declared.config.TaskLine.{TaskLine}
+use Rattle.kes_text.specs.declared.refusal.Stop.TheVariants.{Refused}
+use Rattle.kes_text.specs.Answers.{◌>>=◌}
 use Rattle.reaching.specs.declared.pair.Pair.{Pair}
-use Rattle.reaching.specs.Order.{add_all}
-use Rattle.reaching.specs.Reached.{reached}
 use Rattle.mentions.specs.Setting.{Setting}
-use Rattle.reach.specs.Methods.{mentions_of, too_large}
+use Rattle.reach.specs.declared.reached.Reached.{Reached}
+use Rattle.reach.specs.Pairs.{pairs_of}
+use Rattle.reach.specs.Typings.{typings_of}
+use Rattle.reach.specs.Calls.{calls_of, edges_of, places_of}
+use Rattle.reach.specs.Starts.{starts_of}
+use Rattle.reach.specs.Faults.{fault_of}
 
--- the entry of each task in its domain
-abbrev pub entry : TaskLine × MethodId → Pair
-entry task = record { domain = task.0.domain; method = task.1 }
+abbrev pub reached_by : Setting → List Pair → Reached
+reached_by s pairs = record {
+  pairs = pairs;
+  typed = typings_of s.files pairs;
+  calls = places_of (calls_of s pairs);
+  starts = starts_of s.files pairs;
+}
 
-abbrev pub entries_of : List TaskLine → List MethodId → List Pair
-entries_of tasks entries = map entry (zip tasks entries)
+abbrev pub unless : {A : Type 0} → Option Refusal → A → Result A Stop
+unless None x = Ok x
+unless (Some fault) x = Err (Refused fault)
 
-abbrev pub roots : Setting → List Pair
-roots s = entries_of s.bound.config.tasks s.bound.entries
+-- of pairs none of whose methods is refused
+abbrev pub reached_or_refused : Setting → List Pair → Result Reached Stop
+reached_or_refused s pairs = unless (fault_of (edges_of s pairs) (starts_of s.files pairs) (calls_of s pairs)) (reached_by s pairs)
 
--- each of them once
-abbrev pub entries : Setting → List Pair
-entries s = add_all [] (roots s)
-
-unfoldable pub reach_of : Setting → Result (List Pair) Stop
-reach_of s = reached (mentions_of s (entries s)) (too_large s) (roots s)
+unfoldable pub reach_of : Setting → Result Reached Stop
+reach_of s = pairs_of s >>= reached_or_refused s

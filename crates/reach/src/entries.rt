@@ -1,7 +1,7 @@
 //! The entries of the tasks, in their domains.
 
 ghost use Rattle.std.specs.Prelude.{◌≡◌, IfOk};
-ghost use Rattle.reach.specs.Reach.{entries_of};
+ghost use Rattle.reach.specs.Pairs.{entries_of};
 
 use jworld::MethodId;
 use kconfig::TaskLine;

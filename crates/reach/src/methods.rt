@@ -96,7 +96,7 @@ fn anywhere(alloc: Global, app: &Application<'_, '_, '_>, pair: Pair) -> Result<
 }
 
 /// The number of the file of a pair's class, from 0.
-fn file_number(pair: Pair) -> u32
+pub fn file_number(pair: Pair) -> u32
     ensures { result ≡ pair.method.class.n - 4 }
 {
     pair.method.class.n.saturating_sub(4)

@@ -7,7 +7,7 @@ use Rattle.jworld.specs.declared.ids.MethodId.{MethodId}
 use Rattle.kconfig.specs.declared.config.TaskLine.{TaskLine}
 use Rattle.reaching.specs.declared.pair.Pair.{Pair}
 use Rattle.mentions.proofs.Zipping.{first_ends, second_ends, one_more}
-use Rattle.reach.specs.Reach.{entry, entries_of}
+use Rattle.reach.specs.Pairs.{entry, entries_of}
 use Rattle.reach.proofs.entries.entries_of.Goals as goal
 
 pub returns-in_default : goal.returns-in_default

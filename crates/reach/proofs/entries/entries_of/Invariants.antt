@@ -1,6 +1,6 @@
 -- The entries of the tasks before the loop's place.
 use Rattle.std.proofs.Common.{◌≡◌, take}
-use Rattle.reach.specs.Reach.{entries_of}
+use Rattle.reach.specs.Pairs.{entries_of}
 use Rattle.reach.proofs.entries.entries_of.Given as goal
 
 abbrev pub invariant-loop-n : goal.invariant-loop-n

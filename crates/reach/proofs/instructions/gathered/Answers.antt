@@ -3,7 +3,8 @@ use Rattle.std.proofs.Common.{◌+◌, drop, sym, ap, ◌∙◌}
 use Rattle.std.proofs.lemmas.Result.{err_from_is_err_and}
 use Rattle.reaching.specs.declared.graph.Mention.{Mention}
 use Rattle.reach.specs.Methods.{gathered}
-use Rattle.reach.proofs.Gathering.{none_left, goes_on, stops, left, none_behind}
+use Rattle.reach.proofs.Gathering.{none_left, goes_on, stops}
+use Rattle.reach.proofs.Left.{left, none_behind}
 use Rattle.reach.proofs.instructions.gathered.Goals as goal
 
 pub returns-in_err-called : goal.returns-in_err-called
