@@ -1,0 +1,9 @@
+pub mod Declared
+pub mod Goes
+pub mod Keeping
+pub mod Moved
+pub mod Ran
+pub mod Served
+pub mod Settling
+pub mod Starting
+pub mod Ticked
