@@ -1,0 +1,2 @@
+-- An input as a run takes it.
+pub mod Input
