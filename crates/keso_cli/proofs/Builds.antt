@@ -18,7 +18,8 @@ use Rattle.first_form.specs.Program.{built_of}
 use Rattle.first_form.specs.declared.config.FirstConfig.{FirstConfig}
 use Rattle.first_form.specs.declared.first_class.FirstClass.{FirstClass}
 use Rattle.keso_cli.specs.Left.{Written}
-use Rattle.keso_cli.specs.Seen.{FilesSeen, SinkSeen, TakesPrefix}
+use Rattle.replay.specs.Seen.{SinkSeen, TakesPrefix}
+use Rattle.keso_cli.specs.Seen.{FilesSeen}
 use Rattle.keso_cli.specs.Stops.{CompileStops, ReadsStop, WritesStop, PutStops}
 use Rattle.keso_cli.specs.Summary.{summary_text}
 use Rattle.first_form.specs.Headline.{Headline}

@@ -8,10 +8,12 @@ use Rattle.kes_text.specs.declared.refusal.Refusal.{Refusal}
 use Rattle.keso_cli.specs.declared.status.Status.{Status}
 use Rattle.keso_cli.specs.declared.status.Status.TheVariants as status
 use Rattle.keso_cli.specs.BuildEnds.{InputIsRefused}
-use Rattle.keso_cli.specs.Complete.{IsGiven, NoneRose, IsComplete}
+use Rattle.keso_cli.specs.Complete.{IsGiven, IsGivenToTrace, NoneRose, IsComplete}
 use Rattle.keso_cli.specs.Refusals.{refusal_of}
-use Rattle.keso_cli.specs.Request.{Request, Build}
+use Rattle.keso_cli.specs.Request.{Request, Build, Trace}
 use Rattle.keso_cli.specs.Stands.{Outside, Stands, ReadFaultStands}
+use Rattle.keso_cli.specs.TraceEnds.{TraceNames, trace_names, TraceIsRefused}
+use Rattle.keso_cli.specs.Traced.{Named, trace_refusal}
 use Rattle.first_form.proofs.Headline.Inversion.{none_is_some}
 
 some_back : (xs : List (List ℕ)) → map (λ o. unwrap_or o []) (map Some xs) ≡ xs
@@ -45,16 +47,40 @@ all_held held (x ∷ xs) (y ∷ ys) e =
     All-cons (Holds held) x xs (y, parts.0) (all_held held xs ys parts.1)
 
 -- what couldn't be read was counted
-not_missing : (config : List ℕ) (classes : List (List ℕ)) (before after : Outside) → IsGiven config classes before.files → NoneRose before after → ReadFaultStands (config ∷ classes) before after → ⊥
-not_missing config classes before after given none s =
+missing : (names : List (List ℕ)) (held : Contents) (before after : Outside) → before.files.contents ≡ Some held → All (Holds held) names → NoneRose before after → ReadFaultStands names before after → ⊥
+missing names held before after told all none s =
     elim s.cause [
       | inl rose ↦ none.files rose
-      | inr missing ↦
-          let gone = subst (λ o. IsSomeAnd o (λ files. get files s.name ≡ None)) given.told missing in
-          let all = All-cons (Holds given.held) config classes (given.text, given.config_is) (all_held given.held classes given.bytes given.classes_are) in
-          let here = subst (Holds given.held) s.is_read.2 (all s.is_read.0 s.name s.is_read.1) in
+      | inr absent ↦
+          let gone = subst (λ o. IsSomeAnd o (λ files. get files s.name ≡ None)) told absent in
+          let here = subst (Holds held) s.is_read.2 (all s.is_read.0 s.name s.is_read.1) in
           none_is_some here.0 (sym gone ∙ here.1)
     ]
+
+not_missing : (config : List ℕ) (classes : List (List ℕ)) (before after : Outside) → IsGiven config classes before.files → NoneRose before after → ReadFaultStands (config ∷ classes) before after → ⊥
+not_missing config classes before after given none s =
+    missing (config ∷ classes) given.held before after given.told
+    (All-cons (Holds given.held) config classes (given.text, given.config_is) (all_held given.held classes given.bytes given.classes_are)) none s
+
+-- ---- a trace
+
+none_missing : (names : TraceNames) (before after : Outside) → IsGivenToTrace names before.files → NoneRose before after → ReadFaultStands (names.config ∷ names.script ∷ names.classes) before after → ⊥
+none_missing names before after given none s =
+    missing (names.config ∷ names.script ∷ names.classes) given.held before after given.told
+    (All-cons (Holds given.held) names.config (names.script ∷ names.classes) (given.text, given.config_is)
+    (All-cons (Holds given.held) names.script names.classes (given.script, given.script_is) (all_held given.held names.classes given.bytes given.classes_are))) none s
+
+none_refused : (refused : Named) (names : TraceNames) (before : Outside) → IsGivenToTrace names before.files → TraceIsRefused refused names before.files → ⊥
+none_refused refused names before given says =
+    let read = subst (λ o. IfSome o (λ held. (get held names.config ≡ Some says.0) × (get held names.script ≡ Some says.1) × (map (get held) names.classes ≡ map Some says.2))) given.told says.4 in
+    let text : says.0 ≡ given.text = ap (λ o. unwrap_or o []) (sym read.0 ∙ given.config_is) in
+    let script : says.1 ≡ given.script = ap (λ o. unwrap_or o []) (sym read.1 ∙ given.script_is) in
+    let bytes : says.2 ≡ given.bytes = some_same says.2 given.bytes (sym read.2 ∙ given.classes_are) in
+    let same : trace_refusal names.config names.script names.classes given.text given.script given.bytes ≡ Some refused =
+    ap (λ t. trace_refusal names.config names.script names.classes t given.script given.bytes) (sym text)
+    ∙ ap (λ t. trace_refusal names.config names.script names.classes says.0 t given.bytes) (sym script)
+    ∙ ap (trace_refusal names.config names.script names.classes says.0 says.1) (sym bytes) ∙ says.3 in
+    none_is_some refused (sym given.accepted ∙ same)
 
 pub complete : (answer : Status) (request : Option Request) (before after : Outside) → Stands answer request before after → IsComplete answer request before after
 complete answer None before after s = tt
@@ -65,7 +91,14 @@ complete status.Refused (Some (Build config classes base)) before after s = λ g
 complete status.ReadFault (Some (Build config classes base)) before after s = λ given none. absurd (not_missing config classes before after given none s)
 complete status.WriteFault (Some (Build config classes base)) before after (inl s) = λ given none. absurd (none.files s.stands.counted)
 complete status.WriteFault (Some (Build config classes base)) before after (inr s) = λ given none. absurd (none.out s.counted)
+complete status.Ok (Some (Trace config script classes)) before after s = λ given none. inl refl
+complete status.NoMemory (Some (Trace config script classes)) before after s = λ given none. inr refl
+complete status.Usage (Some (Trace config script classes)) before after s = absurd s
+complete status.Refused (Some (Trace config script classes)) before after s = λ given none. absurd (none_refused s.refused (trace_names config script classes) before given s.cause)
+complete status.ReadFault (Some (Trace config script classes)) before after s = λ given none. absurd (none_missing (trace_names config script classes) before after given none s)
+complete status.WriteFault (Some (Trace config script classes)) before after s = λ given none. absurd (none.out s.counted)
 
 pub complete_when_done : (request : Option Request) (before after : Outside) → IsComplete status.Ok request before after
 complete_when_done None before after = tt
 complete_when_done (Some (Build config classes base)) before after = λ given none. inl refl
+complete_when_done (Some (Trace config script classes)) before after = λ given none. inl refl

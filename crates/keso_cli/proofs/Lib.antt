@@ -1,6 +1,9 @@
 pub mod Builds
 pub mod Complete
+pub mod DeviceBytes
 pub mod Refusing
+pub mod RunsOf
+pub mod Traces
 pub mod Troubles
 pub mod WordLemmas
 pub mod Worlds

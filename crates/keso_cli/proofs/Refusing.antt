@@ -21,10 +21,10 @@ use Rattle.first_form.specs.Configuration.{configuration}
 use Rattle.first_form.specs.Class.{class_of}
 use Rattle.first_form.specs.Config.{config_of}
 use Rattle.first_form.specs.Fits.{if_they_fit, only_class, first_form}
-use Rattle.keso_cli.specs.Refusals.{IsAccepted, fault_of, first_fault, classes_in, of_class_file, world_refusal, binding_refusal, reach_refusal, bound_refusal, reached_refusal, later, refusal_of, name_of}
-use Rattle.keso_cli.specs.Stops.{FileStops, ClassesStop, FaultStops, CompileStops}
+use Rattle.keso_cli.specs.Refusals.{IsAccepted, fault_of, first_fault, classes_in, of_class_file, world_refusal, binding_refusal, reach_refusal, bound_refusal, reached_refusal, later, input_refusal, refusal_of, name_of}
+use Rattle.keso_cli.specs.Stops.{FileStops, ClassesStop, FaultStops, InputStops, CompileStops}
 use Rattle.keso_cli.specs.Taken.{IsBoundTo, IsTaken}
-use Rattle.keso_cli.proofs.Worlds.{config_is}
+use Rattle.run_input.proofs.Inputs.{config_is}
 use Rattle.first_form.proofs.Headline.Inversion.{none_is_some}
 
 pub never_fits : (config : Option FirstConfig) → if_they_fit config None ≡ None
@@ -37,30 +37,27 @@ file_is number (Ok read) r e = absurd (none_is_some r e)
 file_is number (Err stop.NoMemory) r e = absurd (none_is_some r e)
 file_is number (Err (stop.Refused fault)) r e = ap (λ o. (unwrap_or o r).file) e
 
--- why an input is refused whose classes are none, or not of the first form
-abbrev unless_form : Option (FirstConfig × FirstClass) → Option Refusal
-unless_form form = if is_none form then Some later else None
+-- why an input is refused that is bound, and one whose classes are read
+abbrev when_bound : Result Config Stop → List ClassInfo → Option Refusal
+when_bound read classes = result_ok read >>= reached_refusal classes
 
-abbrev when_bound : Result Config Stop → List ClassInfo → Option (FirstConfig × FirstClass) → Option Refusal
-when_bound read classes form = option_or (result_ok read >>= reached_refusal classes) (unless_form form)
+abbrev in_world : Result Config Stop → List ClassInfo → Option Refusal
+in_world read classes = option_or (world_refusal classes) (option_or (result_ok read >>= binding_refusal classes) (when_bound read classes))
 
-abbrev in_world : Result Config Stop → List ClassInfo → Option (FirstConfig × FirstClass) → Option Refusal
-in_world read classes form = option_or (world_refusal classes) (option_or (result_ok read >>= binding_refusal classes) (when_bound read classes form))
-
-config_refused : (text : List ℕ) (files : List (List ℕ)) (r : Refusal) → fault_of 0 (configuration text) ≡ Some r → refusal_of text files ≡ Some r
-unfolding refusal_of
+config_refused : (text : List ℕ) (files : List (List ℕ)) (r : Refusal) → fault_of 0 (configuration text) ≡ Some r → input_refusal text files ≡ Some r
+unfolding input_refusal
 config_refused text files r e =
-    ap (λ fault. option_or fault (option_or (first_fault 1 files) (in_world (configuration text) (classes_in files) (first_form text files)))) e
+    ap (λ fault. option_or fault (option_or (first_fault 1 files) (in_world (configuration text) (classes_in files)))) e
 
-class_refused : (text : List ℕ) (files : List (List ℕ)) (config : Config) (r : Refusal) → configuration text ≡ Ok config → first_fault 1 files ≡ Some r → refusal_of text files ≡ Some r
-unfolding refusal_of
+class_refused : (text : List ℕ) (files : List (List ℕ)) (config : Config) (r : Refusal) → configuration text ≡ Ok config → first_fault 1 files ≡ Some r → input_refusal text files ≡ Some r
+unfolding input_refusal
 class_refused text files config r ok e =
-    ap (λ read. option_or (fault_of 0 read) (option_or (first_fault 1 files) (in_world read (classes_in files) (first_form text files)))) ok
-    ∙ ap (λ fault. option_or fault (in_world (Ok config) (classes_in files) (first_form text files))) e
+    ap (λ read. option_or (fault_of 0 read) (option_or (first_fault 1 files) (in_world read (classes_in files)))) ok
+    ∙ ap (λ fault. option_or fault (in_world (Ok config) (classes_in files))) e
 
 -- a fault of the file of this number and name stops the build where the input is refused for it
 file_stops : {A : Type 0} (trouble : Trouble) (config : List ℕ) (classes : List (List ℕ)) (text : List ℕ) (files : List (List ℕ)) (read : Result A Stop)
-    → ((r : Refusal) → fault_of 0 read ≡ Some r → refusal_of text files ≡ Some r) → FileStops trouble 0 config read → CompileStops trouble config classes text files
+    → ((r : Refusal) → fault_of 0 read ≡ Some r → input_refusal text files ≡ Some r) → FileStops trouble 0 config read → InputStops trouble config classes text files
 file_stops (Refused refusal name) config classes text files read refused h =
     (h.0 ∙ ap (name_of config classes) (file_is 0 read refusal h.1), refused refusal h.1)
 file_stops NoMemory config classes text files read refused h = tt
@@ -69,7 +66,7 @@ file_stops (CannotRead name) config classes text files read refused h = absurd h
 file_stops (CannotWrite name) config classes text files read refused h = absurd h
 file_stops CannotWriteOutput config classes text files read refused h = absurd h
 
-pub config_stops : (trouble : Trouble) (config : List ℕ) (classes : List (List ℕ)) (text : List ℕ) (files : List (List ℕ)) → FileStops trouble 0 config (configuration text) → CompileStops trouble config classes text files
+pub config_stops : (trouble : Trouble) (config : List ℕ) (classes : List (List ℕ)) (text : List ℕ) (files : List (List ℕ)) → FileStops trouble 0 config (configuration text) → InputStops trouble config classes text files
 config_stops trouble config classes text files h = file_stops trouble config classes text files (configuration text) (config_refused text files) h
 
 -- the class files' names stand behind the configuration's
@@ -79,7 +76,7 @@ named_behind config classes zero least = absurd (omega (least, arith))
 
 -- a fault of a class file stops the build where the input is refused for it
 class_file_stops : (trouble : Trouble) (config : List ℕ) (classes : List (List ℕ)) (text : List ℕ) (files : List (List ℕ)) (fault : Option Refusal)
-    → ((r : Refusal) → fault ≡ Some r → refusal_of text files ≡ Some r) → ClassesStop trouble classes fault → CompileStops trouble config classes text files
+    → ((r : Refusal) → fault ≡ Some r → input_refusal text files ≡ Some r) → ClassesStop trouble classes fault → InputStops trouble config classes text files
 class_file_stops (Refused refusal name) config classes text files fault refused h =
     (h.1 ∙ named_behind config classes refusal.file h.2, refused refusal h.0)
 class_file_stops NoMemory config classes text files fault refused h = tt
@@ -89,7 +86,7 @@ class_file_stops (CannotWrite name) config classes text files fault refused h = 
 class_file_stops CannotWriteOutput config classes text files fault refused h = absurd h
 
 pub classes_stop : (trouble : Trouble) (config : List ℕ) (classes : List (List ℕ)) (text : List ℕ) (files : List (List ℕ)) (read : Config) → configuration text ≡ Ok read
-    → ClassesStop trouble classes (first_fault 1 files) → CompileStops trouble config classes text files
+    → ClassesStop trouble classes (first_fault 1 files) → InputStops trouble config classes text files
 classes_stop trouble config classes text files read ok h =
     class_file_stops trouble config classes text files (first_fault 1 files) (λ r e. class_refused text files read r ok e) h
 
@@ -156,38 +153,33 @@ are_read (file ∷ files) (class ∷ classes) e =
 
 -- why an input is refused that is read
 read_refused : (text : List ℕ) (files : List (List ℕ)) (config : Config) (classes : List ClassInfo) → configuration text ≡ Ok config → map class_file files ≡ map Ok classes
-    → refusal_of text files ≡ in_world (Ok config) classes (if_they_fit (config_of config) (only_class classes))
-unfolding refusal_of
+    → input_refusal text files ≡ in_world (Ok config) classes
+unfolding input_refusal
 read_refused text files config classes ok e =
-    ap (λ read. option_or (fault_of 0 read) (option_or (first_fault 1 files) (in_world read (classes_in files) (first_form text files)))) ok
-    ∙ ap (λ fault. option_or fault (in_world (Ok config) (classes_in files) (first_form text files))) (all_read 1 files classes e)
-    ∙ ap (λ cs. in_world (Ok config) cs (first_form text files)) (are_read files classes e)
-    ∙ ap (in_world (Ok config) classes) (form_is text files config classes ok e)
-
--- the form of what is read
-abbrev form_of : Config → List ClassInfo → Option (FirstConfig × FirstClass)
-form_of config classes = if_they_fit (config_of config) (only_class classes)
+    ap (λ read. option_or (fault_of 0 read) (option_or (first_fault 1 files) (in_world read (classes_in files)))) ok
+    ∙ ap (λ fault. option_or fault (in_world (Ok config) (classes_in files))) (all_read 1 files classes e)
+    ∙ ap (in_world (Ok config)) (are_read files classes e)
 
 -- classes that are no world
 pub world_stops : (trouble : Trouble) (config : List ℕ) (names : List (List ℕ)) (text : List ℕ) (files : List (List ℕ)) (read : Config) (classes : List ClassInfo)
-    → configuration text ≡ Ok read → map class_file files ≡ map Ok classes → ClassesStop trouble names (world_refusal classes) → CompileStops trouble config names text files
+    → configuration text ≡ Ok read → map class_file files ≡ map Ok classes → ClassesStop trouble names (world_refusal classes) → InputStops trouble config names text files
 world_stops trouble config names text files read classes ok e h =
     class_file_stops trouble config names text files (world_refusal classes)
-    (λ r is. read_refused text files read classes ok e ∙ ap (λ fault. option_or fault (option_or (binding_refusal classes read) (when_bound (Ok read) classes (form_of read classes)))) is) h
+    (λ r is. read_refused text files read classes ok e ∙ ap (λ fault. option_or fault (option_or (binding_refusal classes read) (when_bound (Ok read) classes))) is) h
 
 -- why an input is refused whose classes are a world
 world_refused : (text : List ℕ) (files : List (List ℕ)) (config : Config) (classes : List ClassInfo) → configuration text ≡ Ok config → map class_file files ≡ map Ok classes → world_fault classes ≡ None
-    → refusal_of text files ≡ option_or (binding_refusal classes config) (when_bound (Ok config) classes (form_of config classes))
+    → input_refusal text files ≡ option_or (binding_refusal classes config) (when_bound (Ok config) classes)
 world_refused text files config classes ok e world =
     read_refused text files config classes ok e
-    ∙ ap (λ fault. option_or (option_map of_class_file fault) (option_or (binding_refusal classes config) (when_bound (Ok config) classes (form_of config classes)))) world
+    ∙ ap (λ fault. option_or (option_map of_class_file fault) (option_or (binding_refusal classes config) (when_bound (Ok config) classes))) world
 
 -- a configuration that can't be bound to their world
 pub binding_stops : (trouble : Trouble) (config : List ℕ) (names : List (List ℕ)) (text : List ℕ) (files : List (List ℕ)) (read : Config) (classes : List ClassInfo)
-    → configuration text ≡ Ok read → map class_file files ≡ map Ok classes → world_fault classes ≡ None → FileStops trouble 0 config (bound_of classes read) → CompileStops trouble config names text files
+    → configuration text ≡ Ok read → map class_file files ≡ map Ok classes → world_fault classes ≡ None → FileStops trouble 0 config (bound_of classes read) → InputStops trouble config names text files
 binding_stops trouble config names text files read classes ok e world h =
     file_stops trouble config names text files (bound_of classes read)
-    (λ r is. world_refused text files read classes ok e world ∙ ap (λ fault. option_or fault (when_bound (Ok read) classes (form_of read classes))) is) h
+    (λ r is. world_refused text files read classes ok e world ∙ ap (λ fault. option_or fault (when_bound (Ok read) classes)) is) h
 
 -- what was read, made a world and bound to it
 pub are_bound : (text : List ℕ) (files : List (List ℕ)) (config : Config) (classes world : List ClassInfo) (bound : Bound) → configuration text ≡ Ok config → map class_file files ≡ map Ok classes → world_fault classes ≡ None
@@ -203,34 +195,49 @@ are_bound text files config classes world bound ok e faultless same is =
 
 -- why an input is refused that is bound
 bound_refused : (text : List ℕ) (files : List (List ℕ)) (bound : Bound) (classes : List ClassInfo) → IsBoundTo text files bound classes
-    → refusal_of text files ≡ option_or (reach_refusal classes bound) (unless_form (form_of bound.config classes))
+    → input_refusal text files ≡ reach_refusal classes bound
 bound_refused text files bound classes to =
     world_refused text files bound.config classes to.config_is to.classes_are to.are_world
-    ∙ ap (λ answer. option_or (fault_of 0 answer) (option_or (bound_refusal classes answer) (unless_form (form_of bound.config classes)))) to.is_bound
+    ∙ ap (λ answer. option_or (fault_of 0 answer) (bound_refusal classes answer)) to.is_bound
 
--- the refusal of a fault that comes first
-fault_stops : (trouble : Trouble) (config : List ℕ) (names : List (List ℕ)) (text : List ℕ) (files : List (List ℕ)) (fault : Option Refusal)
-    → ((r : Refusal) → fault ≡ Some r → refusal_of text files ≡ Some r) → FaultStops trouble config names fault → CompileStops trouble config names text files
-fault_stops (Refused refusal name) config names text files fault refused h = (h.0, refused refusal h.1)
-fault_stops NoMemory config names text files fault refused h = tt
-fault_stops Usage config names text files fault refused h = absurd h
-fault_stops (CannotRead name) config names text files fault refused h = absurd h
-fault_stops (CannotWrite name) config names text files fault refused h = absurd h
-fault_stops CannotWriteOutput config names text files fault refused h = absurd h
+-- a fault that is the first
+pub fault_stops : (trouble : Trouble) (config : List ℕ) (names : List (List ℕ)) (fault first : Option Refusal) → ((r : Refusal) → fault ≡ Some r → first ≡ Some r)
+    → FaultStops trouble config names fault → FaultStops trouble config names first
+fault_stops (Refused refusal name) config names fault first refused h = (h.0, refused refusal h.1)
+fault_stops NoMemory config names fault first refused h = tt
+fault_stops Usage config names fault first refused h = absurd h
+fault_stops (CannotRead name) config names fault first refused h = absurd h
+fault_stops (CannotWrite name) config names fault first refused h = absurd h
+fault_stops CannotWriteOutput config names fault first refused h = absurd h
 
 -- a method that is reached and refused
 pub reach_stops : (trouble : Trouble) (config : List ℕ) (names : List (List ℕ)) (text : List ℕ) (files : List (List ℕ)) (bound : Bound) (classes : List ClassInfo)
-    → IsBoundTo text files bound classes → FaultStops trouble config names (reach_refusal classes bound) → CompileStops trouble config names text files
+    → IsBoundTo text files bound classes → FaultStops trouble config names (reach_refusal classes bound) → InputStops trouble config names text files
 reach_stops trouble config names text files bound classes to h =
-    fault_stops trouble config names text files (reach_refusal classes bound)
-    (λ r fault. bound_refused text files bound classes to ∙ ap (λ o. option_or o (unless_form (form_of bound.config classes))) fault) h
+    fault_stops trouble config names (reach_refusal classes bound) (input_refusal text files) (λ r fault. bound_refused text files bound classes to ∙ fault) h
 
--- why an input that is taken is refused: it isn't of the first form
+-- an input that is taken isn't refused
+pub not_refused : (text : List ℕ) (files : List (List ℕ)) (bound : Bound) (classes : List ClassInfo) → IsTaken text files bound classes → input_refusal text files ≡ None
+not_refused text files bound classes taken = bound_refused text files bound classes taken.bound_to ∙ taken.are_reached
+
+-- ---- why an input isn't compiled
+
+abbrev unless_form : Option (FirstConfig × FirstClass) → Option Refusal
+unless_form form = if is_none form then Some later else None
+
+-- it is refused
+pub input_stops : (trouble : Trouble) (config : List ℕ) (names : List (List ℕ)) (text : List ℕ) (files : List (List ℕ)) → InputStops trouble config names text files → CompileStops trouble config names text files
+unfolding refusal_of
+input_stops trouble config names text files h =
+    fault_stops trouble config names (input_refusal text files) (refusal_of text files) (λ r e. ap (λ fault. option_or fault (unless_form (first_form text files))) e) h
+
+-- it isn't of the first form
 taken_refused : (text : List ℕ) (files : List (List ℕ)) (bound : Bound) (classes : List ClassInfo) → IsTaken text files bound classes
-    → refusal_of text files ≡ unless_form (form_of bound.config classes)
+    → refusal_of text files ≡ unless_form (if_they_fit (config_of bound.config) (only_class classes))
+unfolding refusal_of
 taken_refused text files bound classes taken =
-    bound_refused text files bound classes taken.bound_to
-    ∙ ap (λ fault. option_or fault (unless_form (form_of bound.config classes))) taken.are_reached
+    ap (λ fault. option_or fault (unless_form (first_form text files))) (not_refused text files bound classes taken)
+    ∙ ap unless_form (form_is text files bound.config classes taken.bound_to.config_is taken.bound_to.classes_are)
 
 pub comes_later : (text : List ℕ) (files : List (List ℕ)) (bound : Bound) (classes : List ClassInfo) → IsTaken text files bound classes
     → if_they_fit (config_of bound.config) (only_class classes) ≡ None → refusal_of text files ≡ Some later

@@ -1,16 +1,12 @@
 -- What was made of classes and a configuration: a world, and the configuration bound to it.
-use Rattle.std.proofs.Common.{◌≡◌, Bool, true, false, true≢false, List, Option, Some, None, Result, Ok, Err, refl, sym, ap}
-use Rattle.std.specs.Prelude.{unwrap_or}
+use Rattle.std.proofs.Common.{◌≡◌, true, false, true≢false, List, Option, Some, None, Result, Ok, Err, refl, sym, ap}
 use Rattle.std.specs.Result.{is_err}
 use Rattle.classfile.specs.ClassFile.{ClassInfo}
 use Rattle.jworld.specs.Classes.{World}
 use Rattle.jworld.specs.Faults.{unless, world_fault, world_of}
-use Rattle.kbind.specs.declared.bound.Bound.{Bound}
-use Rattle.kbind.specs.Bound.{members, unless_fault, earliest, faults, bound_of}
-use Rattle.kconfig.specs.declared.config.Config.{Config}
 use Rattle.kes_text.specs.declared.refusal.Refusal.{Refusal}
 use Rattle.kes_text.specs.declared.refusal.Stop.{Stop}
-use Rattle.kes_text.specs.declared.refusal.Stop.TheVariants.{Refused, NoMemory}
+use Rattle.kes_text.specs.declared.refusal.Stop.TheVariants.{Refused}
 
 abbrev world_in : Result World Stop → World → World
 world_in (Ok world) other = world
@@ -36,16 +32,3 @@ is_faultless files world e = (is_world_of files (world_fault files) world e).1
 
 pub is_fault : (files : List ClassInfo) (r : Refusal) → Err (Refused r) ≡ world_of files → world_fault files ≡ Some r
 is_fault files r e = is_fault_of files (world_fault files) r e
-
-abbrev config_in : Result Bound Stop → Config → Config
-config_in (Ok bound) other = bound.config
-config_in (Err stop) other = other
-
-by_fault : (files : World) (config : Config) (fault : Option Refusal) (bound : Bound) → unless_fault (members files config) fault ≡ Ok bound → bound.config ≡ config
-unfolding members
-by_fault files config None bound e = sym (ap (λ answer. config_in answer config) e)
-by_fault files config (Some fault) bound e = absurd (true≢false (ap is_err e))
-
--- a bound configuration is the one that was bound
-pub config_is : (files : World) (config : Config) (bound : Bound) → bound_of files config ≡ Ok bound → bound.config ≡ config
-config_is files config bound e = by_fault files config (earliest (faults files config)) bound e

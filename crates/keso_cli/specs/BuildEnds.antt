@@ -9,7 +9,8 @@ use Rattle.first_form.specs.declared.built.Built.{Built}
 use Rattle.first_form.specs.Headline.{Headline}
 use Rattle.keso_cli.specs.Texts.{texts_of}
 use Rattle.keso_cli.specs.Summary.{summary_text}
-use Rattle.keso_cli.specs.Seen.{FilesSeen, SinkSeen, Takes, TakesPrefix}
+use Rattle.replay.specs.Seen.{SinkSeen, Takes, TakesPrefix}
+use Rattle.keso_cli.specs.Seen.{FilesSeen}
 use Rattle.keso_cli.specs.Left.{CannotBeRead, Written, WrittenInPart, WriteFailed}
 use Rattle.first_form.specs.declared.config.FirstConfig.{FirstConfig}
 use Rattle.first_form.specs.declared.first_class.FirstClass.{FirstClass}

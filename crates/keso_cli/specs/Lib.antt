@@ -7,6 +7,7 @@ pub mod ExitCode
 pub mod Left
 pub mod Refusals
 pub mod Request
+pub mod Run
 pub mod Seen
 pub mod Stands
 pub mod Stops
@@ -14,3 +15,5 @@ pub mod Summary
 pub mod Taken
 pub mod Tells
 pub mod Texts
+pub mod TraceEnds
+pub mod Traced

@@ -67,18 +67,22 @@ bound_refusal world (Err stop) = None
 abbrev pub reached_refusal : List ClassInfo → Config → Option Refusal
 reached_refusal world config = bound_refusal world (bound_of world config)
 
--- the input isn't compiled yet
-abbrev pub later : Refusal
-later = record { file = 0; kind = Later; at = 0 }
-
-unfoldable pub refusal_of : List ℕ → List (List ℕ) → Option Refusal
-refusal_of text files =
+-- why a configuration and classes are refused, whatever is asked for
+unfoldable pub input_refusal : List ℕ → List (List ℕ) → Option Refusal
+input_refusal text files =
     option_or (fault_of 0 (configuration text))
     (option_or (first_fault 1 files)
     (option_or (world_refusal (classes_in files))
     (option_or (result_ok (configuration text) >>= binding_refusal (classes_in files))
-    (option_or (result_ok (configuration text) >>= reached_refusal (classes_in files))
-    (if is_none (first_form text files) then Some later else None)))))
+    (result_ok (configuration text) >>= reached_refusal (classes_in files)))))
+
+-- what is asked for can't be done with the input yet
+abbrev pub later : Refusal
+later = record { file = 0; kind = Later; at = 0 }
+
+-- why they aren't compiled
+unfoldable pub refusal_of : List ℕ → List (List ℕ) → Option Refusal
+refusal_of text files = option_or (input_refusal text files) (if is_none (first_form text files) then Some later else None)
 
 -- an input that isn't refused, and what it says
 pub record IsAccepted (text : List ℕ) (files : List (List ℕ)) (config : FirstConfig) (class : FirstClass) : Type 0 where

@@ -11,10 +11,13 @@ use Rattle.first_form.specs.Counts.{first_summary}
 use Rattle.keso_cli.specs.Texts.{texts_of}
 use Rattle.keso_cli.specs.Left.{CannotBeRead, Written, WriteFailed}
 use Rattle.keso_cli.specs.Refusals.{name_of}
-use Rattle.keso_cli.specs.Request.{Request, Build}
-use Rattle.keso_cli.specs.Seen.{FilesSeen, SinkSeen, TakesPrefix, TakesUnlessFailed}
+use Rattle.keso_cli.specs.Request.{Request, Build, Trace}
+use Rattle.replay.specs.Seen.{SinkSeen, TakesPrefix}
+use Rattle.keso_cli.specs.Seen.{FilesSeen, TakesUnlessFailed}
 use Rattle.keso_cli.specs.Summary.{summary_text}
 use Rattle.keso_cli.specs.Tells.{TellsNoMemory}
+use Rattle.keso_cli.specs.TraceEnds.{TraceNames, trace_names, TraceIsDone, TraceIsRefused, TraceStopped}
+use Rattle.keso_cli.specs.Traced.{Named}
 
 -- the outside at one moment
 pub record Outside : Type 0 where
@@ -106,6 +109,40 @@ StandsAfterBuild status.WriteFault config classes base before after =
     FileFaultStands config classes base before after ⊎ OutputFaultStands config classes base before after
 StandsAfterBuild status.NoMemory config classes base before after = NoMemoryStands config classes base before after
 
+-- ---- a trace
+
+-- Ok: the output has taken the lines of what the run shows, no file has changed, and standard error has taken nothing.
+pub record TraceOkStands (names : TraceNames) (before after : Outside) : Type 0 where
+  pub trace : TraceIsDone names before.files after.files before.out after.out
+  pub silent : after.err.taken ≡ before.err.taken
+
+-- Refused: this is why the input or the script isn't traced.
+pub record TraceRefusedStands (names : TraceNames) (before after : Outside) : Type 0 where
+  pub refused : Named
+  pub cause : TraceIsRefused refused names before.files
+  pub nothing : NothingIsDone before after
+  pub line : TakesUnlessFailed (refusal_text refused.refusal refused.name) before.err after.err
+
+-- WriteFault: the output has taken some first bytes of the lines, and failed then.
+pub record TraceOutputFaultStands (names : TraceNames) (before after : Outside) : Type 0 where
+  pub stopped : TraceStopped names before.files after.files before.out after.out
+  pub counted : Rose before.out.faults after.out.faults
+  pub line : TakesUnlessFailed no_output_text before.err after.err
+
+-- NoMemory: nothing is done, or the output has taken some first bytes of the lines.
+pub record TraceNoMemoryStands (names : TraceNames) (before after : Outside) : Type 0 where
+  pub far : NothingIsDone before after ⊎ TraceStopped names before.files after.files before.out after.out
+  pub line : TellsNoMemory before.err after.err
+
+abbrev pub StandsAfterTrace : Status → TraceNames → Outside → Outside → Type 0
+StandsAfterTrace status.Ok names before after = TraceOkStands names before after
+StandsAfterTrace status.Refused names before after = TraceRefusedStands names before after
+StandsAfterTrace status.Usage names before after = ⊥
+StandsAfterTrace status.ReadFault names before after = ReadFaultStands (names.config ∷ names.script ∷ names.classes) before after
+StandsAfterTrace status.WriteFault names before after = TraceOutputFaultStands names before after
+StandsAfterTrace status.NoMemory names before after = TraceNoMemoryStands names before after
+
 abbrev pub Stands : Status → Option Request → Outside → Outside → Type 0
 Stands answer None before after = StandsWithoutCommand answer before after
 Stands answer (Some (Build config classes base)) before after = StandsAfterBuild answer config classes base before after
+Stands answer (Some (Trace config script classes)) before after = StandsAfterTrace answer (trace_names config script classes) before after

@@ -8,8 +8,9 @@ use Rattle.keso_cli.specs.declared.trouble.Trouble.{Trouble}
 use Rattle.keso_cli.specs.declared.trouble.Trouble.TheVariants.{CannotRead, Refused, CannotWrite, CannotWriteOutput, NoMemory}
 use Rattle.keso_cli.specs.Texts.{Text}
 use Rattle.keso_cli.specs.Left.{CannotBeRead, WrittenInPart, WriteFailed}
-use Rattle.keso_cli.specs.Seen.{FilesSeen, SinkSeen, TakesPrefix}
-use Rattle.keso_cli.specs.Refusals.{fault_of, refusal_of, name_of}
+use Rattle.replay.specs.Seen.{SinkSeen, TakesPrefix}
+use Rattle.keso_cli.specs.Seen.{FilesSeen}
+use Rattle.keso_cli.specs.Refusals.{fault_of, input_refusal, refusal_of, name_of}
 
 -- A file of this name isn't read.
 abbrev pub ReadStops : Trouble → List ℕ → FilesSeen → FilesSeen → Type 0
@@ -42,7 +43,11 @@ FaultStops (Refused refusal name) config classes fault = (name.now ≡ name_of c
 FaultStops NoMemory config classes fault = Unit {0}
 FaultStops _ config classes fault = ⊥
 
--- The input of these names, a configuration's text and the bytes of classes, isn't compiled.
+-- The input of these names, a configuration's text and the bytes of classes, is refused.
+abbrev pub InputStops : Trouble → List ℕ → List (List ℕ) → List ℕ → List (List ℕ) → Type 0
+InputStops trouble config classes text bytes = FaultStops trouble config classes (input_refusal text bytes)
+
+-- It isn't compiled.
 abbrev pub CompileStops : Trouble → List ℕ → List (List ℕ) → List ℕ → List (List ℕ) → Type 0
 CompileStops trouble config classes text bytes = FaultStops trouble config classes (refusal_of text bytes)
 

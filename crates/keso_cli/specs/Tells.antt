@@ -5,7 +5,8 @@ use Rattle.keso_cli.specs.declared.trouble.Trouble.{Trouble}
 use Rattle.keso_cli.specs.declared.trouble.Trouble.TheVariants as trouble
 use Rattle.keso_cli.specs.declared.status.Status.{Status}
 use Rattle.keso_cli.specs.declared.status.Status.TheVariants as status
-use Rattle.keso_cli.specs.Seen.{SinkSeen, TakesUnlessFailed}
+use Rattle.replay.specs.Seen.{SinkSeen}
+use Rattle.keso_cli.specs.Seen.{TakesUnlessFailed}
 
 abbrev pub status_of : Trouble → Status
 status_of trouble.Usage = status.Usage

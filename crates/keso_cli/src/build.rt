@@ -1,58 +1,23 @@
-ghost use Rattle.std.specs.Prelude.{◌≡◌, ◌≤◌, ◌++◌, length, map, Some, IfOk, IfErr, IfSome, OnOk, string_bytes};
-ghost use Rattle.std.specs.FinMap.{get};
+ghost use Rattle.std.specs.Prelude.{◌≡◌, ◌≤◌, ◌++◌, length, map, IfOk, IfErr, OnOk, string_bytes};
 ghost use Rattle.keso_cli.specs.Due.{due};
 ghost use Rattle.keso_cli.specs.BuildEnds.{BuildIsDone, BuildStops};
 ghost use Rattle.first_form.specs.Counts.{first_summary};
 ghost use Rattle.keso_cli.specs.Left.{Writes, Written};
 ghost use Rattle.keso_cli.specs.Request.{most_classes};
-ghost use Rattle.keso_cli.specs.Seen.{files_seen, sink_seen, Takes};
-ghost use Rattle.keso_cli.specs.Stops.{ReadStops, ReadsStop, WriteStops, WritesStop, PutStops};
+ghost use Rattle.replay.specs.Seen.{sink_seen, Takes};
+ghost use Rattle.keso_cli.specs.Seen.{files_seen};
+ghost use Rattle.keso_cli.specs.Stops.{WriteStops, WritesStop, PutStops};
 ghost use Rattle.keso_cli.specs.Summary.{summary_text};
 
 use crate::compile::{Texts, compile};
-use crate::inputs::FileBytes;
+use crate::loading::{read, read_all};
 use crate::summary::summary_lines;
 use crate::trouble::Trouble;
 use crate::words::Build;
 use first_form::FIRST_SUMMARY;
-use kes_outside::{FileFault, Files, ReadStop, Sink, SinkFault};
+use kes_outside::{FileFault, Files, Sink, SinkFault};
 use kes_text::NoMemory;
 use std::alloc::Global;
-
-/// The bytes of the named file.
-fn read<'a, F: Files>(alloc: Global, files: &mut F, name: &'a str) -> Result<Vec<u8>, Trouble<'a>>
-    ensures ok { IfOk result (λ bytes. IfSome (F.contents files.old) (λ held. get held name.now ≡ Some bytes.items)) }
-    ensures stays { F.contents files.new ≡ F.contents files.old }
-    ensures count { F.faults files.old ≤ F.faults files.new }
-    ensures stop { IfErr result (λ ending. ReadStops ending name.now
-        (files_seen F.contents F.faults files.old) (files_seen F.contents F.faults files.new)) }
-{
-    match files.read(alloc, name) {
-        Ok(bytes) => Ok(bytes),
-        Err(ReadStop::Missing | ReadStop::Failed) => Err(Trouble::CannotRead(name)),
-        Err(ReadStop::NoMemory) => Err(Trouble::NoMemory),
-    }
-}
-
-/// The bytes of the named files, in their order.
-fn read_all<'a, F: Files>(
-    alloc: Global,
-    files: &mut F,
-    names: &'a [String],
-) -> Result<FileBytes, Trouble<'a>>
-    ensures ok { IfOk result (λ all. IfSome (F.contents files.old) (λ held. map (get held) (map string_bytes names.now) ≡ map Some all)) }
-    ensures many { IfOk result (λ all. length all ≡ length names.now) }
-    ensures stays { F.contents files.new ≡ F.contents files.old }
-    ensures count { F.faults files.old ≤ F.faults files.new }
-    ensures stop { IfErr result (λ ending. ReadsStop ending (map string_bytes names.now)
-        (files_seen F.contents F.faults files.old) (files_seen F.contents F.faults files.new)) }
-{
-    let mut all = FileBytes::new(alloc);
-    for name in names {
-        all.push(read(alloc, files, name.as_str())?)?;
-    }
-    Ok(all)
-}
 
 /// The name of one of a build's files.
 fn file_name(alloc: Global, base: &str, ending: &str) -> Result<String, NoMemory>
@@ -125,17 +90,17 @@ pub fn build<'a, F: Files, O: Sink>(
     files: &mut F,
     out: &mut O,
 ) -> Result<(), Trouble<'a>>
-    requires { length names.classes.now ≤ most_classes }
-    ensures ok { OnOk result (BuildIsDone names.entry.config.now (map string_bytes names.entry.classes.now) names.entry.base.now
+    requires { length names.inputs.classes.now ≤ most_classes }
+    ensures ok { OnOk result (BuildIsDone names.entry.inputs.config.now (map string_bytes names.entry.inputs.classes.now) names.entry.base.now
         (files_seen F.contents F.faults files.old) (files_seen F.contents F.faults files.new)
         (sink_seen O.taken O.faults out.old) (sink_seen O.taken O.faults out.new)) }
-    ensures stop { IfErr result (λ trouble. BuildStops trouble names.entry.config.now (map string_bytes names.entry.classes.now) names.entry.base.now
+    ensures stop { IfErr result (λ trouble. BuildStops trouble names.entry.inputs.config.now (map string_bytes names.entry.inputs.classes.now) names.entry.base.now
         (files_seen F.contents F.faults files.old) (files_seen F.contents F.faults files.new)
         (sink_seen O.taken O.faults out.old) (sink_seen O.taken O.faults out.new)) }
 {
-    let config = read(alloc, files, names.config)?;
-    let classes = read_all(alloc, files, names.classes)?;
-    let texts = compile(alloc, names, config.as_slice(), classes.as_slice())?;
+    let config = read(alloc, files, names.inputs.config)?;
+    let classes = read_all(alloc, files, names.inputs.classes)?;
+    let texts = compile(alloc, names.inputs, config.as_slice(), classes.as_slice())?;
     write_texts(alloc, files, names.base, &texts)?;
     put_summary(alloc, out)
 }

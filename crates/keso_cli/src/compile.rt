@@ -1,4 +1,4 @@
-ghost use Rattle.std.specs.Prelude.{◌≡◌, ◌≤◌, length, map, string_bytes, IfOk, IfErr};
+ghost use Rattle.std.specs.Prelude.{◌≤◌, length, map, string_bytes, IfOk, IfErr};
 ghost use Rattle.first_form.specs.declared.config.FirstConfig.{FirstConfig};
 ghost use Rattle.first_form.specs.declared.first_class.FirstClass.{FirstClass};
 ghost use Rattle.first_form.specs.Config.{config_of};
@@ -10,23 +10,16 @@ ghost use Rattle.keso_cli.specs.Request.{most_classes};
 ghost use Rattle.keso_cli.specs.Stops.{CompileStops};
 
 use crate::reading::{Input, read_input};
-use crate::trouble::Trouble;
-use crate::words::Build;
+use crate::trouble::{LATER, Trouble};
+use crate::words::Inputs;
 use c_out::print_c;
 use classfile::Class;
 use first_form::{Built, emit, first_input};
 use kconfig::Config;
-use kes_text::{Kind, NoMemory, Refusal};
+use kes_text::NoMemory;
 use mapfile::print_map;
 use oil_out::print_oil;
 use std::alloc::Global;
-
-/// The input isn't compiled yet.
-const LATER: Refusal = Refusal {
-    file: 0,
-    kind: Kind::Later,
-    at: 0,
-};
 
 /// The three texts that a build writes.
 #[derive(Drop)]
@@ -73,7 +66,7 @@ fn texts_of_input(alloc: Global, input: Input<'_>) -> Result<Option<Texts>, NoMe
 /// under its name, and any other input under the configuration's.
 pub fn compile<'a>(
     alloc: Global,
-    names: Build<'a>,
+    names: Inputs<'a>,
     config: &[u8],
     files: &[Vec<u8>],
 ) -> Result<Texts, Trouble<'a>>

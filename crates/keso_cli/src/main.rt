@@ -4,6 +4,7 @@
 mod build;
 mod compile;
 mod inputs;
+mod loading;
 mod reading;
 mod report;
 mod status;
@@ -11,6 +12,8 @@ mod summary;
 #[cfg(test)]
 mod tests;
 mod top;
+mod trace;
+mod tracing;
 mod trouble;
 mod words;
 

@@ -1,37 +1,48 @@
-//! The input of a build: a configuration that is bound to a world of classes, or the first of its faults.
+//! The input of a command: a configuration that is bound to a world of classes, or the first of its faults.
 
-ghost use Rattle.std.specs.Prelude.{◌≡◌, ◌+◌, ◌≤◌, [], length, map, slice_index_or, string_bytes, None, Ok, IfOk, IfErr, OnOk};
+ghost use Rattle.std.specs.Prelude.{◌≡◌, ◌+◌, ◌≤◌, [], length, map, slice_index_or, string_bytes, None, Ok, IfOk, IfErr};
 ghost use Rattle.classfile.specs.Reading.{class_file};
 ghost use Rattle.jworld.specs.Faults.{world_fault};
 ghost use Rattle.kbind.specs.Bound.{bound_of};
+ghost use Rattle.kconfig.specs.Sound.{IsSound};
+ghost use Rattle.reach.specs.Reach.{reach_of};
 ghost use Rattle.first_form.specs.Configuration.{configuration};
 ghost use Rattle.keso_cli.specs.Refusals.{first_fault, world_refusal, name_of, reach_refusal};
 ghost use Rattle.keso_cli.specs.Request.{most_classes};
-ghost use Rattle.keso_cli.specs.Stops.{FileStops, ClassesStop, FaultStops, CompileStops};
+ghost use Rattle.keso_cli.specs.Stops.{FileStops, ClassesStop, FaultStops, InputStops};
 ghost use Rattle.keso_cli.specs.Taken.{IsTaken};
 
 use crate::inputs::Classes;
 use crate::trouble::Trouble;
-use crate::words::Build;
+use crate::words::Inputs;
 use classfile::{Class, read_class};
 use jworld::World;
 use kbind::{Bound, bind};
 use kconfig::{Config, read_config};
 use kes_text::{Refusal, Stop};
-use reach::reach;
+use reach::{Reached, reach};
 use std::alloc::Global;
 
 /// A configuration that is bound to a world of classes.
 #[derive(Drop)]
+struct Bounded<'b> {
+    world: World<'b>,
+    bound: Bound,
+}
+
+/// The same, with what is reached.
+#[derive(Drop)]
 pub struct Input<'b> {
     pub world: World<'b>,
     pub bound: Bound,
+    pub reached: Reached,
 }
 
 /// The configuration that the text of this name is.
 #[tactic(auto, unfolding(first_form::specs::Configuration::configuration))]
 fn config_in<'a>(alloc: Global, name: &'a str, text: &[u8]) -> Result<Config, Trouble<'a>>
     ensures ok { IfOk result (λ config. configuration text.now ≡ Ok config) }
+    ensures sound { IfOk result IsSound }
     ensures stop { IfErr result (λ trouble. FileStops trouble 0 name.now (configuration text.now)) }
 {
     match read_config(alloc, text) {
@@ -42,7 +53,7 @@ fn config_in<'a>(alloc: Global, name: &'a str, text: &[u8]) -> Result<Config, Tr
 }
 
 /// The name of a class file, by its place among them.
-fn class_name<'a>(names: Build<'a>, index: usize) -> &'a str
+fn class_name<'a>(names: Inputs<'a>, index: usize) -> &'a str
     ensures { result.now ≡ slice_index_or (map string_bytes names.entry.classes.now) index [] }
 {
     match names.classes.get(index) {
@@ -54,7 +65,7 @@ fn class_name<'a>(names: Build<'a>, index: usize) -> &'a str
 /// A class file by its place among them.
 fn class_in<'a, 'b>(
     alloc: Global,
-    names: Build<'a>,
+    names: Inputs<'a>,
     index: u32,
     bytes: &'b [u8],
 ) -> Result<Class<'b>, Trouble<'a>>
@@ -76,7 +87,7 @@ fn class_in<'a, 'b>(
 /// The class files, in their order.
 fn classes_in<'a, 'b>(
     alloc: Global,
-    names: Build<'a>,
+    names: Inputs<'a>,
     files: &'b [Vec<u8>],
 ) -> Result<Classes<'b>, Trouble<'a>>
     requires { length files.now ≤ most_classes }
@@ -95,7 +106,7 @@ fn classes_in<'a, 'b>(
 /// The world that the classes are.
 fn world_in<'a, 'b>(
     alloc: Global,
-    names: Build<'a>,
+    names: Inputs<'a>,
     classes: Classes<'b>,
 ) -> Result<World<'b>, Trouble<'a>>
     requires { length classes ≤ most_classes }
@@ -137,17 +148,17 @@ fn bound_input<'a, 'b>(
     name: &'a str,
     config: Config,
     world: World<'b>,
-) -> Result<Input<'b>, Trouble<'a>>
+) -> Result<Bounded<'b>, Trouble<'a>>
     ensures same { IfOk result (λ input. input.world ≡ world.entry) }
     ensures ok { IfOk result (λ input. bound_of world.entry config ≡ Ok input.bound) }
     ensures stop { IfErr result (λ trouble. FileStops trouble 0 name.now (bound_of world.entry config)) }
 {
     let bound = bound_in(alloc, name, config, &world)?;
-    Ok(Input { world, bound })
+    Ok(Bounded { world, bound })
 }
 
 /// The name of a file by its number: the configuration is 0, and the first class file 1.
-fn file_name<'a>(names: Build<'a>, number: u32) -> &'a str
+fn file_name<'a>(names: Inputs<'a>, number: u32) -> &'a str
     ensures { result.now ≡ name_of names.entry.config.now (map string_bytes names.entry.classes.now) number }
 {
     match number {
@@ -156,18 +167,18 @@ fn file_name<'a>(names: Build<'a>, number: u32) -> &'a str
     }
 }
 
-/// Looks at what is reached from the tasks' entries.
+/// What is reached from the tasks' entries.
 fn reached_in<'a>(
     alloc: Global,
-    names: Build<'a>,
+    names: Inputs<'a>,
     world: &World<'_>,
     bound: &Bound,
-) -> Result<(), Trouble<'a>>
-    ensures ok { OnOk result (reach_refusal world.now bound.now ≡ None) }
+) -> Result<Reached, Trouble<'a>>
+    ensures ok { IfOk result (λ reached. reach_of (record { files = world.now; bound = bound.now }) ≡ Ok reached) }
     ensures stop { IfErr result (λ trouble. FaultStops trouble names.entry.config.now (map string_bytes names.entry.classes.now) (reach_refusal world.now bound.now)) }
 {
     match reach(alloc, bound, world) {
-        Ok(_reached) => Ok(()),
+        Ok(reached) => Ok(reached),
         Err(Stop::Refused(fault)) => {
             let file = fault.file.saturating_add(1);
             let name = file_name(names, file);
@@ -177,21 +188,27 @@ fn reached_in<'a>(
     }
 }
 
-/// The input of a build. A configuration or a class file that has a fault is refused under its name.
+/// The input of a command. A configuration or a class file that has a fault is refused under its name.
 pub fn read_input<'a, 'b>(
     alloc: Global,
-    names: Build<'a>,
+    names: Inputs<'a>,
     config: &[u8],
     files: &'b [Vec<u8>],
 ) -> Result<Input<'b>, Trouble<'a>>
     requires { length files.now ≤ most_classes }
     ensures ok { IfOk result (λ input. IsTaken config.now (map (λ file. file.items) files.now) input.bound input.world) }
-    ensures stop { IfErr result (λ trouble. CompileStops trouble names.entry.config.now (map string_bytes names.entry.classes.now) config.now (map (λ file. file.items) files.now)) }
+    ensures reached { IfOk result (λ input. reach_of (record { files = input.world; bound = input.bound }) ≡ Ok input.reached) }
+    ensures sound { IfOk result (λ input. IsSound input.bound.config) }
+    ensures stop { IfErr result (λ trouble. InputStops trouble names.entry.config.now (map string_bytes names.entry.classes.now) config.now (map (λ file. file.items) files.now)) }
 {
     let config = config_in(alloc, names.config, config)?;
     let classes = classes_in(alloc, names, files)?;
     let world = world_in(alloc, names, classes)?;
     let input = bound_input(alloc, names.config, config, world)?;
-    reached_in(alloc, names, &input.world, &input.bound)?;
-    Ok(input)
+    let reached = reached_in(alloc, names, &input.world, &input.bound)?;
+    Ok(Input {
+        world: input.world,
+        bound: input.bound,
+        reached,
+    })
 }

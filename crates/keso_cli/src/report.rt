@@ -1,7 +1,8 @@
-ghost use Rattle.std.specs.Prelude.{◌≡◌, ◌≤◌, ◌++◌, Some, IfOk, IfErr, OnOk, string_bytes};
-ghost use Rattle.kes_text.specs.Complaints.{complaint_text, no_memory_text};
-ghost use Rattle.keso_cli.specs.Seen.{sink_seen, TakesUnlessFailed};
-ghost use Rattle.keso_cli.specs.Tells.{status_of, line_of, TellsNoMemory, Tells};
+ghost use Rattle.std.specs.Prelude.{◌≡◌, ◌≤◌, IfErr, OnOk};
+ghost use Rattle.kes_text.specs.Complaints.{complaint_text};
+ghost use Rattle.replay.specs.Seen.{sink_seen};
+ghost use Rattle.keso_cli.specs.Seen.{TakesUnlessFailed};
+ghost use Rattle.keso_cli.specs.Tells.{status_of, line_of, Tells};
 
 use crate::status::Status;
 use crate::trouble::Trouble;

@@ -178,7 +178,7 @@ fn the_example_is_built(rt: HostRuntime) -> Result<(), Fail> {
 #[test]
 fn words_that_are_no_command_touch_nothing(rt: HostRuntime) -> Result<(), Fail> {
     let alloc = rt.alloc();
-    let some: [&[&str]; 8] = [
+    let some: [&[&str]; 10] = [
         &[],
         &["build", "a", "b"],
         &["build", "main.cfg", "-o", "row"],
@@ -187,6 +187,8 @@ fn words_that_are_no_command_touch_nothing(rt: HostRuntime) -> Result<(), Fail> 
         &["build", "", "Main.class", "-o", "row"],
         &["build", "main.cfg", "Main.class", "-other", "-o", "row"],
         &["trace", "main.cfg", "Main.class", "-o", "row"],
+        &["trace", "main.cfg", "row.script"],
+        &["trace", "main.cfg", "-s", "Main.class"],
     ];
     for words in some {
         let ran = run(alloc, words, Vec::new(alloc), NONE_FAILS)?;
@@ -482,6 +484,109 @@ fn classes_that_are_no_world_are_refused(rt: HostRuntime) -> Result<(), Fail> {
     assert_eq!(rt;
         ran.err.bytes(),
         b"keso: Main.class: MissingClass at 89\n".as_slice()
+    );
+    Ok(())
+}
+
+/// The example's class, traced under this configuration with this script.
+fn trace_of(
+    alloc: Global,
+    config: &str,
+    script: &str,
+    failing: Failing<'_>,
+) -> Result<Ran, AllocError> {
+    let held = vec![in alloc;
+        file(alloc, "main.cfg", config.as_bytes())?,
+        file(alloc, "row.script", script.as_bytes())?,
+        file(alloc, "Main.class", &CLASS)?,
+    ]?;
+    run(
+        alloc,
+        &["trace", "main.cfg", "row.script", "Main.class"],
+        held,
+        failing,
+    )
+}
+
+const TRACED: &str = "main ActivateTask main 4\nmain TerminateTask 0\n";
+
+#[test]
+fn the_example_is_traced(rt: HostRuntime) -> Result<(), Fail> {
+    for script in ["run 4\n", "run 1000000000000000000\n"] {
+        let ran = trace_of(rt.alloc(), CONFIG, script, NONE_FAILS)?;
+        assert_eq!(rt; ran.status, Status::Ok);
+        assert_eq!(rt; ran.out.bytes(), TRACED.as_bytes());
+        assert_eq!(rt; ran.err.bytes().len(), 0);
+    }
+    Ok(())
+}
+
+/// A configuration that isn't traced yet.
+const DEVICES: &str =
+    "keso 1 order big\ndevices base 0 size 0\ndomain app heap 64\ntask main domain app prio 1 acts 1 auto yes sched full entry Main.run\nnative Main.again()I ActivateTask main\n";
+
+#[test]
+fn a_fault_of_the_script_comes_before_later(rt: HostRuntime) -> Result<(), Fail> {
+    let cases = [
+        (
+            CONFIG,
+            "run 4\ntick c\n",
+            "keso: row.script: Unknown at 2\n",
+        ),
+        (DEVICES, "tick c\n", "keso: row.script: Unknown at 1\n"),
+        (DEVICES, "run 4\n", "keso: main.cfg: Later at 0\n"),
+        (
+            "keso 1 order middle\n",
+            "tick c\n",
+            "keso: main.cfg: Syntax at 1\n",
+        ),
+        (
+            CONFIG,
+            "run 1000000000000000000\nrun\n",
+            "keso: row.script: TooMany at 2\n",
+        ),
+    ];
+    for (config, script, line) in cases {
+        let ran = trace_of(rt.alloc(), config, script, NONE_FAILS)?;
+        assert_eq!(rt; ran.status, Status::Refused);
+        assert_eq!(rt; ran.err.bytes(), line.as_bytes());
+        assert_eq!(rt; ran.out.bytes().len(), 0);
+    }
+    Ok(())
+}
+
+#[test]
+fn each_read_of_a_trace_may_fail(rt: HostRuntime) -> Result<(), Fail> {
+    let cases = [
+        (0, "keso: cannot read main.cfg\n"),
+        (1, "keso: cannot read row.script\n"),
+        (2, "keso: cannot read Main.class\n"),
+    ];
+    for (call, line) in cases {
+        let failing = Failing {
+            files: &[call],
+            ..NONE_FAILS
+        };
+        let ran = trace_of(rt.alloc(), CONFIG, "run 4\n", failing)?;
+        assert_eq!(rt; ran.status, Status::ReadFault);
+        assert_eq!(rt; ran.err.bytes(), line.as_bytes());
+        assert_eq!(rt; ran.out.bytes().len(), 0);
+    }
+    Ok(())
+}
+
+#[test]
+fn an_output_that_fails_has_the_lines_before(rt: HostRuntime) -> Result<(), Fail> {
+    let failing = Failing {
+        out: &[1],
+        ..NONE_FAILS
+    };
+    let ran = trace_of(rt.alloc(), CONFIG, "run 4\n", failing)?;
+    assert_eq!(rt; ran.status, Status::WriteFault);
+    assert_eq!(rt; ran.out.bytes(), b"main ActivateTask main 4\n".as_slice());
+    assert_eq!(rt;
+        ran.err.bytes(),
+        b"keso: cannot write the output\n".as_slice()
     );
     Ok(())
 }

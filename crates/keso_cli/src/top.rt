@@ -2,12 +2,14 @@ ghost use Rattle.std.specs.Prelude.{IfErr, OnOk, map, string_bytes};
 ghost use Rattle.keso_cli.specs.CommandEnds.{CommandIsDone, CommandStops};
 ghost use Rattle.keso_cli.specs.Complete.{IsComplete};
 ghost use Rattle.keso_cli.specs.Request.{request_of};
-ghost use Rattle.keso_cli.specs.Seen.{files_seen, sink_seen};
+ghost use Rattle.replay.specs.Seen.{sink_seen};
+ghost use Rattle.keso_cli.specs.Seen.{files_seen};
 ghost use Rattle.keso_cli.specs.Stands.{Stands};
 
 use crate::build::build;
 use crate::report::report;
 use crate::status::Status;
+use crate::trace::trace;
 use crate::trouble::Trouble;
 use crate::words::{Command, command_of};
 use kes_outside::{Files, Sink};
@@ -30,12 +32,13 @@ fn perform<'a, F: Files, O: Sink>(
     match command_of(words) {
         None => Err(Trouble::Usage),
         Some(Command::Build(names)) => build(alloc, names, files, out),
+        Some(Command::Trace(names)) => trace(alloc, names, files, out),
     }
 }
 
 /// The whole program: does what the words ask for, over these files, and tells on `err` why it didn't.
 ///
-/// The words of a command are `build CONFIG CLASS -o BASE`.
+/// The words of a command are `build CONFIG CLASS.. -o BASE` or `trace CONFIG SCRIPT CLASS..`.
 pub fn keso<F: Files, O: Sink, E: Sink>(
     alloc: Global,
     words: &[String],

@@ -1,4 +1,11 @@
-use kes_text::{NoMemory, Refusal};
+use kes_text::{Kind, NoMemory, Refusal};
+
+/// What is asked for of such an input isn't done yet.
+pub const LATER: Refusal = Refusal {
+    file: 0,
+    kind: Kind::Later,
+    at: 0,
+};
 
 /// Why a command did not do what it was asked for.
 #[derive(Drop)]

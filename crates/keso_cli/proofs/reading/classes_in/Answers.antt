@@ -1,8 +1,6 @@
 -- The first class file that isn't read has a fault.
-use Rattle.std.proofs.Common.{◌+◌, map, slice_index_or, [], string_bytes, subst}
+use Rattle.std.proofs.Common.{map, string_bytes}
 use Rattle.std.proofs.lemmas.Result.{err_from_is_err_and}
-use Rattle.classfile.specs.Reading.{class_file}
-use Rattle.keso_cli.specs.Stops.{FileStops}
 use Rattle.keso_cli.proofs.Refusing.{class_stops}
 use Rattle.keso_cli.proofs.reading.classes_in.Goals as goal
 

@@ -1,6 +1,6 @@
+-- The classes that are named are as many as the words.
 use Rattle.std.proofs.Common.{string_bytes}
 use Rattle.keso_cli.proofs.WordLemmas.{few_names}
-use Rattle.keso_cli.proofs.words.are_classes.Goals.{then-words-ge1, else-words-ge1}
 use Rattle.keso_cli.proofs.words.are_classes.Goals as goal
 
 pub returns-then-words-le-MOST_CLASSES : goal.returns-then-words-le-MOST_CLASSES

@@ -1,7 +1,7 @@
 -- The files before the loop's place are read.
 use Rattle.std.proofs.Common.{◌≡◌, ◌≤◌, map, take, length, Some, IfSome, string_bytes}
 use Rattle.std.specs.FinMap.{get}
-use Rattle.keso_cli.proofs.build.read_all.Given as goal
+use Rattle.keso_cli.proofs.loading.read_all.Given as goal
 
 abbrev pub invariant-loop-name : goal.invariant-loop-name
 invariant-loop-name g l =

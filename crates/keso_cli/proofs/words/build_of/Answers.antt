@@ -1,6 +1,6 @@
 use Rattle.std.proofs.Common.{string_bytes, map}
 use Rattle.keso_cli.proofs.WordLemmas.{request_is, found, not_found}
-use Rattle.keso_cli.proofs.words.command_of.Goals as goal
+use Rattle.keso_cli.proofs.words.build_of.Goals as goal
 
 pub returns-then-is_build : goal.returns-then-is_build
 returns-then-is_build c =
